@@ -60,6 +60,7 @@ first-passes t (suc k) c n l m e = by-test (t c) refl (λ d. first-passes t k (c
     apart : t c ≡ false → c + 1 ≤ n
     apart q =
         ⊎-elim (λ (s : c ≡ n). absurd (true≢false (sym e ∙ ap t (sym s) ∙ q))) (λ (s : c < n). omega arith) (eq-or-lt-of-le l)
+
     by-test : (b : Bool) → t c ≡ b
         → (c + 1 ≤ n → (t (firstFrom t k (c + 1)) ≡ true) × (firstFrom t k (c + 1) ≤ n))
         → (t (cond b c (firstFrom t k (c + 1))) ≡ true) × (cond b c (firstFrom t k (c + 1)) ≤ n)

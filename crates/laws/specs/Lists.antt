@@ -1,10 +1,11 @@
--- What the layers say of lists of numbers: member, all different, strictly ascending, how many pass a test, the sum.
+-- What the layers say of lists of numbers: member, all different, strictly ascending, how many pass a test,
+-- the values of a function in order, the sum.
 -- Cited by every crate. The laws are in proofs/Lists.antt.
 -- Assumes nothing.
 use mathlib.Core.Path.{_≡_}
 use mathlib.Core.Bool.{Bool, true, false, cond, _||_}
-use mathlib.Core.List.{List, [], _∷_}
-use Prim.Native.Nat.{ℕ, _+_, _<_}
+use mathlib.Core.List.{List, [], _∷_, _++_}
+use Prim.Native.Nat.{ℕ, zero, suc, _+_, _<_}
 use lib.Dec.{eqb}
 
 -- whether x stands in the list; never in the empty one
@@ -31,6 +32,11 @@ Ascending (x ∷ l) = AllAbove x l × Ascending l
 unfoldable pub countOf : {A : Type 0} → (A → Bool) → List A → ℕ
 countOf t [] = 0
 countOf t (x ∷ l) = cond (t x) 1 0 + countOf t l
+
+-- f 0, f 1, .., f (k − 1); the empty list where k is 0
+unfoldable pub tabulate : {A : Type 0} → (ℕ → A) → ℕ → List A
+tabulate f zero = []
+tabulate f (suc k) = tabulate f k ++ (f k ∷ [])
 
 -- the sum of the numbers; 0 of the empty list
 unfoldable pub sumOf : List ℕ → ℕ

@@ -1,0 +1,4 @@
+pub mod Names
+pub mod Features
+pub mod Shared
+pub mod Set

@@ -1,0 +1,127 @@
+// What a name is, and its features. The rule: docs/RULE.md, "Names and features"; the definitions: specs/.
+ghost use mathlib.Core.Path.{_≡_};
+ghost use mathlib.Core.List.{[]};
+ghost use Prim.Native.Nat.{ℕ, _/_, _≤_, _<_};
+ghost use lib.ListN.{length, getD};
+ghost use Rattle.laws.specs.Lists.{member};
+ghost use Rattle.names.specs.Names.{judgeOf};
+ghost use Rattle.names.specs.Features.{padded, gramAt, timesIn, featuresOf, gramLength, characters};
+ghost use Rattle.names.specs.Set.{filled};
+
+// The most bytes that a name has.
+pub const LONGEST: usize = 64;
+
+// The features of one name: the first `len` of `items`, in order of appearance; the places after them are 0.
+pub struct FeatureSet {
+    pub items: [u64; 66],
+    pub len: usize,
+}
+
+impl FeatureSet {
+    pub const CAPACITY: usize = 66;
+
+    // The set that holds nothing.
+    pub fn empty() -> Self
+        ensures { λ r. ⌜ r ≡ filled [] ⌝ }
+    {
+        FeatureSet {
+            items: [0; FeatureSet::CAPACITY],
+            len: 0,
+        }
+    }
+}
+
+// Whether a byte of the name is 0.
+fn has_zero(name: &[u8]) -> bool
+    ensures { λ r. ⌜ r ≡ member 0 (now (name .entry)) ⌝ }
+{
+    let mut i = 0;
+    while i < name.len() {
+        if name[i] == 0 {
+            return true;
+        }
+        i += 1;
+    }
+    false
+}
+
+// 0 for a good name; 1 for an empty one, then 2 for one that is too long, then 3 for a 0 byte.
+pub fn judge(name: &[u8]) -> u8
+    ensures { λ r. ⌜ r ≡ judgeOf (now (name .entry)) ⌝ }
+{
+    let n = name.len();
+    if n == 0 {
+        return 1;
+    }
+    if LONGEST < n {
+        return 2;
+    }
+    if has_zero(name) {
+        return 3;
+    }
+    0
+}
+
+fn wide(x: u8) -> u64
+    ensures { λ r. ⌜ (r ≡ x) × (r < 256) ⌝ }
+{
+    x as u64
+}
+
+// The character at place k of the padded name.
+fn character_at(name: &[u8], k: usize) -> u64
+    ensures { λ r. ⌜ (r ≡ getD (padded gramLength (now (name .entry))) k 0) × (r < 256) ⌝ }
+{
+    if k < 2 {
+        return 0;
+    }
+    let j = k - 2;
+    if j < name.len() {
+        return wide(name[j]);
+    }
+    0
+}
+
+// The gram at place i.
+fn gram_at(name: &[u8], i: usize) -> u64
+    requires { ⌜ i < 66 ⌝ }
+    ensures { λ r. ⌜ (r ≡ gramAt gramLength characters (now (name .entry)) i) × (r < 16777216) ⌝ }
+{
+    character_at(name, i) * 65536 + character_at(name, i + 1) * 256 + character_at(name, i + 2)
+}
+
+// How many of the first k features are of the gram.
+fn times_in(items: &[u64], gram: u64, k: usize) -> u64
+    requires { ⌜ (k ≤ length (now items)) × (k ≤ 66) ⌝ }
+    ensures { λ r. ⌜ (r ≡ timesIn (λ (j : ℕ). getD (now (items .entry)) j 0 / 256) gram k) × (r ≤ k) ⌝ }
+{
+    let mut n: u64 = 0;
+    let mut j = 0;
+    while j < k {
+        if items[j] / 256 == gram {
+            n += 1;
+        }
+        j += 1;
+    }
+    n
+}
+
+// The features of a name; the empty set where the name is refused.
+pub fn features(name: &[u8]) -> FeatureSet
+    ensures { λ r. ⌜ r ≡ filled (featuresOf (now (name .entry))) ⌝ }
+{
+    let mut set = FeatureSet::empty();
+    if judge(name) != 0 {
+        return set;
+    }
+    let size = name.len() + 2;
+    let mut i = 0;
+    while i < size {
+        let gram = gram_at(name, i);
+        let number = times_in(&set.items, gram, i) + 1;
+        set.items[i] = gram * 256 + number;
+        i += 1;
+    }
+    set.len = size;
+    set
+}
