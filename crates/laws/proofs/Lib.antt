@@ -1,3 +1,4 @@
 pub mod Lists
+pub mod Below
 pub mod First
 pub mod Order

@@ -1,2 +1,4 @@
 pub mod Lists
+pub mod Below
+pub mod Sort
 pub mod First

@@ -1,0 +1,5 @@
+pub mod Words
+pub mod Good
+pub mod Lists
+pub mod Built
+pub mod Part
