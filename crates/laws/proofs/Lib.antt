@@ -2,3 +2,4 @@ pub mod Lists
 pub mod Below
 pub mod First
 pub mod Order
+pub mod Tests

@@ -1,0 +1,7 @@
+pub mod Fractions
+pub mod Measures
+pub mod Sizes
+pub mod Least
+pub mod Terms
+pub mod Fits
+pub mod Figures

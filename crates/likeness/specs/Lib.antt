@@ -1,0 +1,5 @@
+pub mod Measures
+pub mod Sizes
+pub mod Least
+pub mod Fractions
+pub mod Terms
