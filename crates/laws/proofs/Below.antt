@@ -139,3 +139,29 @@ sum-below-up n (suc d) f =
     let e = ap (λ (j : ℕ). sumBelow j f) k in
     let s = sum-below-step f (n + d) in
     omega arith
+
+-- ---- how many pass
+
+pub count-below-most : (n : ℕ) (t : ℕ → Bool) → countBelow n t ≤ n
+unfolding sumBelow
+count-below-most zero t = omega arith
+count-below-most (suc n) t = by-test (t n) (count-below-most n t)
+  where
+    by-test : (b : Bool) → countBelow n t ≤ n → countBelow n t + cond b 1 0 ≤ suc n
+    by-test true h = omega arith
+    by-test false h = omega arith
+
+-- where one fails, fewer than all pass
+pub count-below-fewer : (n : ℕ) (t : ℕ → Bool) (i : ℕ) → i < n → t i ≡ false → countBelow n t < n
+unfolding sumBelow
+count-below-fewer zero t i h e = absurd (omega arith)
+count-below-fewer (suc n) t i h e =
+    let m : i ≤ n = omega arith in
+    ⊎-elim
+    (λ (s : i ≡ n). let c = count-below-most n t in rw (ap t (sym s) ∙ e) (omega arith))
+    (λ (s : i < n). by-test (t n) (count-below-fewer n t i s e))
+    (eq-or-lt-of-le m)
+  where
+    by-test : (b : Bool) → countBelow n t < n → countBelow n t + cond b 1 0 < suc n
+    by-test true h = omega arith
+    by-test false h = omega arith

@@ -3,3 +3,5 @@ pub mod Below
 pub mod First
 pub mod Order
 pub mod Tests
+pub mod Tables
+pub mod Filter

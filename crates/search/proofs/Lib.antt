@@ -1,0 +1,4 @@
+pub mod Candidates
+pub mod Tables
+pub mod Testing
+mod Cases

@@ -1,0 +1,85 @@
+-- What a search answers: the order of refusals, the rows, and the number and values of each case.
+-- Assumes nothing.
+use mathlib.Core.Bool.{Bool, cond}
+use mathlib.Core.List.{List, [], _++_, map}
+use Prim.Native.Nat.{ℕ}
+use lib.ListN.{length, drop}
+use lib.Dec.{ltb, eqb}
+use Rattle.names.specs.Names.{judgeOf}
+use Rattle.names.specs.Features.{featuresOf}
+use Rattle.likeness.specs.Measures.{goodMeasure, goodThreshold}
+use Rattle.likeness.specs.Terms.{lowestTerms}
+use Rattle.index.specs.Words.{nameId, nameSize}
+use Rattle.index.specs.Good.{goodOf}
+use Rattle.search.specs.Method.{touchesOf, sharedWith, answersOf}
+use Rattle.search.specs.declared.Answer.{Answer}
+use Rattle.search.specs.declared.Answer.the-variants.{Found, Refused}
+
+-- ---- an answer, as the number and values that the rule sets out
+
+-- 0 where answered
+abbrev pub numberIn : Answer → ℕ
+numberIn (Found rows touches p q) = 0
+numberIn (Refused number touches) = number
+
+-- a refusal reports no rows
+abbrev pub rowsIn : Answer → ℕ
+rowsIn (Found rows touches p q) = rows
+rowsIn (Refused number touches) = 0
+
+abbrev pub touchesIn : Answer → ℕ
+touchesIn (Found rows touches p q) = touches
+touchesIn (Refused number touches) = touches
+
+-- a refusal reports the threshold as 0/0
+abbrev pub thresholdP : Answer → ℕ
+thresholdP (Found rows touches p q) = p
+thresholdP (Refused number touches) = 0
+
+abbrev pub thresholdQ : Answer → ℕ
+thresholdQ (Found rows touches p q) = q
+thresholdQ (Refused number touches) = 0
+
+-- ---- what is judged before the search: 1, 2, 3, then 4, 5, 6; 0 where nothing is refused
+
+unfoldable pub refusalOf : List ℕ → ℕ → ℕ → ℕ → List ℕ → ℕ
+refusalOf query m p q w =
+    cond (eqb (judgeOf query) 0)
+    (cond (goodMeasure m) (cond (goodThreshold p q) (cond (goodOf w) 0 6) 5) 4)
+    (judgeOf query)
+
+-- ---- the search of a good index: 7 where the touches exceed the allowance, then 8 where the answers exceed the room
+
+module _ (query : List ℕ) (m p q allowance : ℕ) (w : List ℕ) (room : ℕ) where
+  unfoldable pub searchGoodOf : Answer
+  searchGoodOf =
+      cond (ltb allowance (touchesOf w m p q (featuresOf query)))
+      (Refused 7 allowance)
+      (cond (ltb room (length (answersOf w m p q (featuresOf query))))
+      (Refused 8 (touchesOf w m p q (featuresOf query)))
+      (Found (length (answersOf w m p q (featuresOf query))) (touchesOf w m p q (featuresOf query)) (lowestTerms p q .p) (lowestTerms p q .q)))
+
+  -- the search of any words
+  unfoldable pub searchOf : Answer
+  searchOf = cond (eqb (refusalOf query m p q w) 0) searchGoodOf (Refused (refusalOf query m p q w) 0)
+
+-- ---- the rows
+
+-- the places of the names that an answer gives: all answers where it is answered, none where it is refused
+unfoldable pub givenBy : Answer → List ℕ → List ℕ
+givenBy (Found rows touches p q) places = places
+givenBy (Refused number touches) places = []
+
+-- a lent column afterwards: what is given, and behind it what stood there
+abbrev pub over : List ℕ → List ℕ → List ℕ
+over l s = l ++ drop (length l) s
+
+-- the three columns of the given rows
+abbrev pub idColumn : List ℕ → List ℕ → List ℕ
+idColumn w places = map (nameId w) places
+
+abbrev pub sharedColumn : List ℕ → List ℕ → List ℕ → List ℕ
+sharedColumn w query places = map (sharedWith w query) places
+
+abbrev pub sizeColumn : List ℕ → List ℕ → List ℕ
+sizeColumn w places = map (nameSize w) places

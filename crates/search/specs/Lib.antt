@@ -1,0 +1,3 @@
+pub mod Method
+pub mod Answers
+pub mod Tables

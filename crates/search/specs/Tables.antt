@@ -1,0 +1,52 @@
+-- The tables that the code keeps by a name's place among the names: counts, and the candidates met. Cited by the contracts of the code's parts.
+-- Assumes nothing.
+use mathlib.Core.Path.{_≡_}
+use mathlib.Core.Bool.{Bool, true, cond, _&&_}
+use mathlib.Core.List.{List}
+use Prim.Native.Nat.{ℕ, _+_, _/_, _≤_, _<_}
+use lib.ListN.{length, getD, take}
+use lib.Dec.{leb, ltb, eqb}
+use Rattle.laws.specs.Lists.{member, Distinct, tabulate}
+use Rattle.index.specs.Good.{mostNames}
+
+-- ---- the names, as their words
+
+-- the id of the name at place i; past the last name the id is 0
+abbrev pub idAt : List ℕ → ℕ → ℕ
+idAt ns i = getD ns i 0 / 256
+
+-- whether the list holds the name at place i; never past the last name
+unfoldable pub holdsAt : List ℕ → List ℕ → ℕ → Bool
+holdsAt ns l i = ltb i (length ns) && member (idAt ns i) l
+
+-- the names have ascending ids and are not too many
+pub record Names (ns : List ℕ) : Type 0 where
+  pub few : length ns ≤ mostNames
+  pub rising : (i j : ℕ) → i < j → j < length ns → idAt ns i < idAt ns j
+
+-- each id of the list is one of the names
+abbrev pub Named : List ℕ → List ℕ → Type 0
+Named ns l = (id : ℕ) → member id l ≡ true → (i : ℕ) × (i < length ns) × (idAt ns i ≡ id)
+
+-- ---- the candidates met
+
+-- the first m of `met` are the places whose count is at least 1, each once
+pub record MetBy (counts met : List ℕ) (m : ℕ) : Type 0 where
+  pub within : m ≤ length met
+  pub distinct : Distinct (take m met)
+  pub those : (i : ℕ) → member i (take m met) ≡ leb 1 (getD counts i 0)
+
+-- ---- the counts
+
+-- one more at each name that the list holds
+unfoldable pub tallied : List ℕ → List ℕ → List ℕ → List ℕ
+tallied ns l counts = tabulate (λ (i : ℕ). getD counts i 0 + cond (holdsAt ns l i) 1 0) mostNames
+
+-- the count after a test: one more where the list holds the name; 0, dropped, where that and `left` more are below `least`, or was 0
+unfoldable pub testedAt : List ℕ → List ℕ → ℕ → ℕ → List ℕ → ℕ → ℕ
+testedAt ns l left least counts i =
+    cond (eqb (getD counts i 0) 0) 0
+    (cond (ltb (getD counts i 0 + cond (holdsAt ns l i) 1 0 + left) least) 0 (getD counts i 0 + cond (holdsAt ns l i) 1 0))
+
+unfoldable pub tested : List ℕ → List ℕ → ℕ → ℕ → List ℕ → List ℕ
+tested ns l left least counts = tabulate (testedAt ns l left least counts) mostNames
