@@ -5,3 +5,5 @@ pub mod Order
 pub mod Tests
 pub mod Tables
 pub mod Filter
+pub mod Members
+pub mod Sort

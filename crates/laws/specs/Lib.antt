@@ -3,3 +3,4 @@ pub mod Below
 pub mod Sort
 pub mod First
 pub mod Filter
+pub mod Each
