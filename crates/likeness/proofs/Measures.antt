@@ -117,17 +117,17 @@ similar-fraction m p q x y c g =
     rw (similar-reaches m p q x y c g) (reaches-fraction (measureOf m) p q x y c (threshold-facts p q g .0))
 
 -- from what reaches to what is similar
-carried : (m p q x y c m′ p′ q′ x′ y′ c′ : ℕ) → goodThreshold p′ q′ ≡ true
-    → (0 < p → reaches (measureOf m) p q x y c ≡ true → reaches (measureOf m′) p′ q′ x′ y′ c′ ≡ true)
-    → isSimilar m p q x y c ≡ true → isSimilar m′ p′ q′ x′ y′ c′ ≡ true
-carried m p q x y c m′ p′ q′ x′ y′ c′ g f e =
+carried : (m p q x y c p′ q′ x′ y′ c′ : ℕ) → goodThreshold p′ q′ ≡ true
+    → (0 < p → reaches (measureOf m) p q x y c ≡ true → reaches (measureOf m) p′ q′ x′ y′ c′ ≡ true)
+    → isSimilar m p q x y c ≡ true → isSimilar m p′ q′ x′ y′ c′ ≡ true
+carried m p q x y c p′ q′ x′ y′ c′ g f e =
     let h = similar-good m p q x y c e .1 in
-    similar-reaches m′ p′ q′ x′ y′ c′ g ∙ f (threshold-facts p q h .0) (sym (similar-reaches m p q x y c h) ∙ e)
+    similar-reaches m p′ q′ x′ y′ c′ g ∙ f (threshold-facts p q h .0) (sym (similar-reaches m p q x y c h) ∙ e)
 
 -- more shared features are similar too
 pub similar-mono : (m p q x y c d : ℕ) → c ≤ d → isSimilar m p q x y c ≡ true → isSimilar m p q x y d ≡ true
 similar-mono m p q x y c d l e =
-    carried m p q x y c m p q x y d (similar-good m p q x y c e .1) (λ k. reaches-mono (measureOf m) p q k x y c d l) e
+    carried m p q x y c p q x y d (similar-good m p q x y c e .1) (λ k. reaches-mono (measureOf m) p q k x y c d l) e
 
 -- the query and the name may change places
 pub similar-symmetric : (m p q x y c : ℕ) → isSimilar m p q x y c ≡ isSimilar m p q y x c
@@ -135,14 +135,14 @@ similar-symmetric m p q x y c = same-test _ _ (turned x y) (turned y x)
   where
     turned : (x y : ℕ) → isSimilar m p q x y c ≡ true → isSimilar m p q y x c ≡ true
     turned x y e =
-        carried m p q x y c m p q y x c (similar-good m p q x y c e .1) (λ k. reaches-turned (measureOf m) p q k x y c) e
+        carried m p q x y c p q y x c (similar-good m p q x y c e .1) (λ k. reaches-turned (measureOf m) p q k x y c) e
 
 -- a higher threshold p′ / q′ makes nothing similar that was not
 pub similar-higher : (m p q p′ q′ x y c : ℕ) → goodThreshold p q ≡ true → FractionLe p q p′ q′
     → isSimilar m p′ q′ x y c ≡ true → isSimilar m p q x y c ≡ true
 similar-higher m p q p′ q′ x y c g h e =
     let a = threshold-facts p′ q′ (similar-good m p′ q′ x y c e .1) in
-    carried m p′ q′ x y c m p q x y c g (λ k. reaches-higher (measureOf m) p q (threshold-facts p q g .0) p′ q′ x y c k (omega arith) h) e
+    carried m p′ q′ x y c p q x y c g (λ k. reaches-higher (measureOf m) p q (threshold-facts p q g .0) p′ q′ x y c k (omega arith) h) e
 
 -- two thresholds of one fraction, as 70 / 100 and 7 / 10, make the same similar
 pub similar-equal : (m p q p′ q′ x y c : ℕ) → goodThreshold p q ≡ true → goodThreshold p′ q′ ≡ true → p * q′ ≡ p′ * q

@@ -10,7 +10,7 @@ use native.Mathlib.Omega.{arith}
 use lib.Dec.{leb}
 use borrow.Author.Tests.{le-leb, leb-true}
 use Rattle.laws.proofs.Tests.{same-test, test-fails, test-failed, and-parts}
-use Rattle.likeness.specs.Measures.{Measure, dice, jaccard, cosine, overlap, other, measureOf, goodThreshold, reaches, isSimilar}
+use Rattle.likeness.specs.Measures.{Measure, dice, jaccard, cosine, overlap, other, known, measureOf, goodMeasure, goodThreshold, reaches, isSimilar}
 use Rattle.likeness.specs.Sizes.{beside, mayReach, isSearched}
 use Rattle.likeness.specs.Fractions.{FractionLe}
 use Rattle.likeness.proofs.Fractions.{fraction-trans}
@@ -93,6 +93,14 @@ mayReach-smaller overlap p q x y l k n =
     sym (le-leb (p * min x y) (x * q) (rw (min-eq-left n) (omega (arith, mul-le-mul-right x l))))
 mayReach-smaller other p q x y l k n = refl
 
+mayReach-known : (μ : Measure) (p q x y : ℕ) → mayReach μ p q x y ≡ true → known μ ≡ true
+unfolding mayReach
+mayReach-known dice p q x y e = refl
+mayReach-known jaccard p q x y e = refl
+mayReach-known cosine p q x y e = refl
+mayReach-known overlap p q x y e = refl
+mayReach-known other p q x y e = e
+
 -- ---- the sizes searched
 
 -- at a good threshold, searched is the rule's test of the two sizes
@@ -100,10 +108,12 @@ pub searched-reach : (m p q x y : ℕ) → goodThreshold p q ≡ true → isSear
 unfolding isSearched
 searched-reach m p q x y g = rw g
 
--- no size is searched at a bad threshold
-pub searched-good : (m p q x y : ℕ) → isSearched m p q x y ≡ true → goodThreshold p q ≡ true
-unfolding isSearched
-searched-good m p q x y e = and-parts (goodThreshold p q) (mayReach (measureOf m) p q x y) e .0
+-- no size is searched at a bad threshold, or by a bad measure
+pub searched-good : (m p q x y : ℕ) → isSearched m p q x y ≡ true → (goodMeasure m ≡ true) × (goodThreshold p q ≡ true)
+unfolding isSearched goodMeasure
+searched-good m p q x y e =
+    let h = and-parts (goodThreshold p q) (mayReach (measureOf m) p q x y) e in
+    (mayReach-known (measureOf m) p q x y (h .1), h .0)
 
 -- the query and the name may change places
 pub searched-symmetric : (m p q x y : ℕ) → isSearched m p q x y ≡ isSearched m p q y x
@@ -119,7 +129,7 @@ searched-overlap p q x y g = rw g
 pub searched-higher : (m p q p′ q′ x y : ℕ) → goodThreshold p q ≡ true → FractionLe p q p′ q′
     → isSearched m p′ q′ x y ≡ true → isSearched m p q x y ≡ true
 searched-higher m p q p′ q′ x y g h e =
-    let g′ = searched-good m p′ q′ x y e in
+    let g′ = searched-good m p′ q′ x y e .1 in
     let a = threshold-facts p q g in
     let b = threshold-facts p′ q′ g′ in
     searched-reach m p q x y g

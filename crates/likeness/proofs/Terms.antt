@@ -89,8 +89,7 @@ divisor-scaled k p q l =
     let g = divisorOf (k * p) (k * q) in
     let d = divisor-divides (k * p) (k * q) in
     let e = divisor-divides p q in
-    let up : k * divisorOf p q ∣ g
-    = divisor-greatest (k * divisorOf p q) (k * p) (k * q) (mul-dvd-mul-left _ k (e .0)) (mul-dvd-mul-left _ k (e .1)) in
+    let up : k * divisorOf p q ∣ g = divisor-greatest _ (k * p) (k * q) (mul-dvd-mul-left _ k (e .0)) (mul-dvd-mul-left _ k (e .1)) in
     let f : k * (g / k) ≡ g = mul-div-cancel' k (divisor-greatest k (k * p) (k * q) (dvd-mul-right k p) (dvd-mul-right k q)) in
     let a : g / k ∣ p = dvd-of-mul-dvd-mul-left (g / k) l (rw f (d .0)) in
     let b : g / k ∣ q = dvd-of-mul-dvd-mul-left (g / k) l (rw f (d .1)) in
@@ -139,7 +138,7 @@ lowest-equal p q p′ q′ l l′ e =
     let a : q′ * p ≡ q * p′ = omega arith in
     sym (lowest-scaled q′ p q l′) ∙ ap₂ lowestTerms a (mul-comm q′ q) ∙ lowest-scaled q p′ q′ l
 
--- 0 / 0 stays, and nothing else becomes it
+-- 0 / 0 stays 0 / 0
 pub lowest-nil : lowestTerms 0 0 ≡ record { p = 0; q = 0 }
 unfolding lowestTerms divisorOf divisorF
 lowest-nil = refl

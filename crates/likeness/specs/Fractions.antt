@@ -1,4 +1,4 @@
--- The paper's measures as exact fractions. No code needs them: proofs/Laws.antt shows that the rule's inequality says that they reach p / q.
+-- The paper's measures as exact fractions. No code needs them: proofs/Measures.antt shows that the rule's inequality says that they reach p / q.
 -- The cosine is c / √(x·y), so its fraction is that of the squares, and is held against the square of p / q.
 -- Assumes nothing.
 use Prim.Native.Nat.{ℕ, _+_, _-_, _*_, _≤_, min}

@@ -6,6 +6,7 @@ use Prim.Native.Nat.{ℕ, max}
 use Rattle.laws.specs.First.{firstFrom}
 use Rattle.likeness.specs.Measures.{goodMeasure, goodThreshold, isSimilar}
 
--- the first shared count from 1 that is similar (the larger size always is); 0 where the measure or the threshold is bad
+-- the first shared count from 1 that is similar, which the larger size always is; 1 where both sizes are 0, and 0 where the measure or the
+-- threshold is bad
 unfoldable pub leastCount : ℕ → ℕ → ℕ → ℕ → ℕ → ℕ
 leastCount m p q x y = cond (goodMeasure m && goodThreshold p q) (firstFrom (isSimilar m p q x y) (max x y) 1) 0

@@ -1,7 +1,7 @@
 -- When two names are similar: the rule's inequality for each measure, in whole numbers.
 -- The sizes searched are in Sizes.antt, the least count in Least.antt, the measures as fractions in Fractions.antt.
--- Where this departs from the paper: the paper compares a real similarity with a real threshold; here the threshold is p / q, both sides are
--- multiplied out, and the cosine is compared by squares, so a pair that lies on the threshold is never lost to rounding.
+-- Where this departs from the paper (Okazaki and Tsujii, CPMerge): it compares a real similarity with a real threshold; here the threshold is
+-- p / q, both sides are multiplied out, and the cosine is compared by squares, so a pair that lies on the threshold is never lost to rounding.
 -- Assumes nothing.
 use mathlib.Core.Bool.{Bool, true, false, cond, _&&_}
 use Prim.Native.Nat.{ℕ, _+_, _-_, _*_, min}

@@ -1,4 +1,4 @@
--- Which sizes are searched: those at which two names can be similar at all. proofs/Laws.antt has that skipping the others loses nothing.
+-- Which sizes are searched: those at which two names can be similar at all. proofs/Sizes.antt shows that skipping the others loses nothing.
 -- Where this departs from the paper: its appendix bounds the shared count by the larger size; the smaller is right, and these ranges follow from it.
 -- Assumes nothing.
 use mathlib.Core.Bool.{Bool, true, false, _&&_}
@@ -6,7 +6,7 @@ use Prim.Native.Nat.{ℕ, _-_, _*_}
 use lib.Dec.{leb}
 use Rattle.likeness.specs.Measures.{Measure, dice, jaccard, cosine, overlap, other, measureOf, goodThreshold}
 
--- low·x ≤ high·y and low·y ≤ high·x: neither size is above high / low of the other
+-- low·x ≤ high·y and low·y ≤ high·x: neither size is more than high / low times the other
 unfoldable pub beside : ℕ → ℕ → ℕ → ℕ → Bool
 beside low high x y = leb (low * x) (high * y) && leb (low * y) (high * x)
 

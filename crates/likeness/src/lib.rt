@@ -40,12 +40,14 @@ fn minus(a: u64, b: u64) -> u64
     if a < b { 0 } else { a - b }
 }
 
+// The smaller of the two.
 fn smaller(a: u64, b: u64) -> u64
     ensures { λ r. ⌜ r ≡ min a b ⌝ }
 {
     if a < b { a } else { b }
 }
 
+// The larger of the two.
 fn larger(a: u8, b: u8) -> u8
     ensures { λ r. ⌜ r ≡ max a b ⌝ }
 {
@@ -53,7 +55,7 @@ fn larger(a: u8, b: u8) -> u8
 }
 
 // The rule's inequality for each measure, at any p and q.
-fn at_least(measure: u8, p: u16, q: u16, x: u8, y: u8, c: u8) -> bool
+fn reaches_threshold(measure: u8, p: u16, q: u16, x: u8, y: u8, c: u8) -> bool
     ensures { λ r. ⌜ r ≡ reaches (measureOf measure) p q x y c ⌝ }
 {
     let p = p as u64;
@@ -70,11 +72,11 @@ fn at_least(measure: u8, p: u16, q: u16, x: u8, y: u8, c: u8) -> bool
     }
 }
 
-// Whether names of x and y features, of which they share some, are similar; never where the measure or the threshold is bad.
+// Whether two names of x and y features, with so many shared, are similar; never where the measure or the threshold is bad.
 pub fn similar(measure: u8, p: u16, q: u16, x: u8, y: u8, shared: u8) -> bool
     ensures { λ r. ⌜ r ≡ isSimilar measure p q x y shared ⌝ }
 {
-    good_threshold(p, q) && at_least(measure, p, q, x, y, shared)
+    good_threshold(p, q) && reaches_threshold(measure, p, q, x, y, shared)
 }
 
 // low·x ≤ high·y and low·y ≤ high·x.
@@ -105,8 +107,8 @@ pub fn searched(measure: u8, p: u16, q: u16, x: u8, y: u8) -> bool
     }
 }
 
-// The least count of shared features that is similar, tried upward from 1; 0 where the measure or the threshold is bad. The larger size is
-// always enough, so it needs no try.
+// The least count of shared features that is similar, tried upward from 1. The larger size is always enough, so it needs no try. 0 where the
+// measure or the threshold is bad.
 pub fn least_count(measure: u8, p: u16, q: u16, x: u8, y: u8) -> u8
     ensures { λ r. ⌜ r ≡ leastCount measure p q x y ⌝ }
 {
@@ -119,7 +121,7 @@ pub fn least_count(measure: u8, p: u16, q: u16, x: u8, y: u8) -> u8
     let most = larger(x, y);
     let mut c: u8 = 1;
     while c < most {
-        if at_least(measure, p, q, x, y, c) {
+        if reaches_threshold(measure, p, q, x, y, c) {
             return c;
         }
         c += 1;

@@ -54,17 +54,18 @@ loop-holds c =
     let e : c .larger .result + 1 - 1 ≡ max (a .x) (a .y) = omega (arith, c .larger .ensures) in
     (omega arith, omega arith, rw e (sym (least-first (a .measure) (a .p) (a .q) (a .x) (a .y) (known (c .before)) (judged (c .before)))))
 
-at-least-requires : tie.Need-at-least-requires Inv-loop μ-loop
-at-least-requires c κs = search needs
+reaches-threshold-requires : tie.Need-reaches-threshold-requires Inv-loop μ-loop
+reaches-threshold-requires c κs = search needs
 
 -- what the turn's test says of c
-tried : (c : tie.After-at-least Inv-loop μ-loop) →
+tried : (c : tie.After-reaches-threshold Inv-loop μ-loop) →
     let a = c .before .before .before .before .before .before .before .before .args in
-    isSimilar (a .measure) (a .p) (a .q) (a .x) (a .y) (c .before .before .loop .c) ≡ c .at-least .result
+    isSimilar (a .measure) (a .p) (a .q) (a .x) (a .y) (c .before .before .loop .c) ≡ c .reaches-threshold .result
 tried c =
     let a = c .before .before .before .before .before .before .before .before .args in
-    similar-reaches (a .measure) (a .p) (a .q) (a .x) (a .y) (c .before .before .loop .c) (judged (c .before .before .before .before))
-    ∙ sym (c .at-least .ensures)
+    let n = c .before .before .loop .c in
+    rw (c .reaches-threshold .ensures)
+    (similar-reaches (a .measure) (a .p) (a .q) (a .x) (a .y) n (judged (c .before .before .before .before)))
 
 returns-3 : tie.Need-returns-3 Inv-loop μ-loop
 returns-3 c =
@@ -109,7 +110,7 @@ least-count-spec =
     returns-2
     larger-requires
     loop-holds
-    at-least-requires
+    reaches-threshold-requires
     returns-3
     add-c
     loop-less

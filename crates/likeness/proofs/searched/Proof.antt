@@ -2,13 +2,12 @@
 -- Assumes nothing.
 use mathlib.Core.Path.{_≡_, sym, _∙_}
 use mathlib.Core.Bool.{true}
-use native.Mathlib.Nat.{mul-le-mul}
 use native.Mathlib.Omega.{arith}
 use borrow.Author.Needs.{needs}
 use borrow.Author.Tests.{not-true, not-false}
 use Rattle.likeness.specs.Measures.{goodThreshold, measureOf}
 use Rattle.likeness.specs.Sizes.{mayReach, isSearched}
-use Rattle.likeness.proofs.Fits.{word}
+use Rattle.likeness.proofs.Fits.{two-below, fits-two}
 use Rattle.likeness.proofs.Measures.{measure-other}
 use Rattle.likeness.proofs.searched.Statement.{statement}
 use Rattle.likeness.proofs.searched.Tie as tie
@@ -37,15 +36,13 @@ sizes-beside-requires-2 : tie.Need-sizes-beside-requires-2
 sizes-beside-requires-2 c κs = search needs
 
 mul-sizes-beside : tie.Need-mul-sizes-beside
-mul-sizes-beside c = let p = word (c .before .before .before .fits .p) in omega (arith, mul-le-mul p p)
+mul-sizes-beside c = fits-two (omega arith) (omega arith)
 
 mul-sizes-beside-2 : tie.Need-mul-sizes-beside-2
-mul-sizes-beside-2 c = let q = word (c .before .before .before .fits .q) in omega (arith, mul-le-mul q q)
+mul-sizes-beside-2 c = fits-two (omega arith) (omega arith)
 
 sizes-beside-requires-3 : tie.Need-sizes-beside-requires-3
-sizes-beside-requires-3 c κs =
-    let f = c .before .before .before .fits in
-    omega (arith, mul-le-mul (word (f .p)) (word (f .p)), mul-le-mul (word (f .q)) (word (f .q)))
+sizes-beside-requires-3 c κs = (two-below (omega arith) (omega arith), two-below (omega arith) (omega arith))
 
 returns-2 : tie.Need-returns-2
 unfolding isSearched mayReach measureOf

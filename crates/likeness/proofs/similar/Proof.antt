@@ -9,16 +9,16 @@ use Rattle.likeness.proofs.similar.Tie as tie
 good-threshold-requires : tie.Need-good-threshold-requires
 good-threshold-requires c κs = search needs
 
-at-least-requires : tie.Need-at-least-requires
-at-least-requires c κs = search needs
+reaches-threshold-requires : tie.Need-reaches-threshold-requires
+reaches-threshold-requires c κs = search needs
 
 returns : tie.Need-returns
 unfolding isSimilar
-returns c = rw (sym (c .before .before .good-threshold .ensures) ∙ c .before .if1 .taken) (c .at-least .ensures)
+returns c = rw (sym (c .before .before .good-threshold .ensures) ∙ c .before .if1 .taken) (c .reaches-threshold .ensures)
 
 returns-2 : tie.Need-returns-2
 unfolding isSimilar
 returns-2 c = rw (sym (c .before .good-threshold .ensures) ∙ c .if1 .left) (c .if1 .left)
 
 pub similar-spec : {M : Type 1} → statement M
-similar-spec = tie.close (tie.spec good-threshold-requires at-least-requires returns returns-2)
+similar-spec = tie.close (tie.spec good-threshold-requires reaches-threshold-requires returns returns-2)

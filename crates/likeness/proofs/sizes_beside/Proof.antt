@@ -1,24 +1,23 @@
 -- `likeness::sizes_beside` meets its contract: a factor below 2 ^ 32 times a byte fits, and the two tests are the definition's.
 -- Assumes nothing.
-use native.Mathlib.Nat.{mul-le-mul, le-of-lt}
 use native.Mathlib.Omega.{arith}
 use borrow.Author.Tests.{le-leb, lt-leb}
 use Rattle.likeness.specs.Sizes.{beside}
-use Rattle.likeness.proofs.Fits.{byte}
+use Rattle.likeness.proofs.Fits.{fits-wide}
 use Rattle.likeness.proofs.sizes_beside.Statement.{statement}
 use Rattle.likeness.proofs.sizes_beside.Tie as tie
 
 mul-if1 : tie.Need-mul-if1
-mul-if1 c = omega (arith, mul-le-mul (le-of-lt (c .pre .0)) (byte (c .fits .x)))
+mul-if1 c = fits-wide (c .pre .0) (omega arith)
 
 mul-if1-2 : tie.Need-mul-if1-2
-mul-if1-2 c = omega (arith, mul-le-mul (le-of-lt (c .pre .1)) (byte (c .fits .y)))
+mul-if1-2 c = fits-wide (c .pre .1) (omega arith)
 
 mul-result : tie.Need-mul-result
-mul-result c = omega (arith, mul-le-mul (le-of-lt (c .before .pre .0)) (byte (c .before .fits .y)))
+mul-result c = fits-wide (c .before .pre .0) (omega arith)
 
 mul-result-2 : tie.Need-mul-result-2
-mul-result-2 c = omega (arith, mul-le-mul (le-of-lt (c .before .pre .1)) (byte (c .before .fits .x)))
+mul-result-2 c = fits-wide (c .before .pre .1) (omega arith)
 
 returns : tie.Need-returns
 unfolding beside
