@@ -201,6 +201,24 @@ fn a_candidate_that_has_reached_the_least_count_gets_its_full_count() {
     assert_eq!(rows, [row(10, 6, 6)]);
 }
 
+/// ABC against ABD (10), ABE (11), XBC (12) and YZC (13), all of size 5, by Dice. The lists, in order: ABC none, BC0
+/// 12; then of two each, by feature, 00A 10 11, 0AB 10 11, C00 12 13.
+#[test]
+fn ties_go_by_feature_and_hopeless_candidates_are_dropped() {
+    let words = index(&["ABD", "ABE", "XBC", "YZC"]);
+    let cut = cut(&words).unwrap();
+    let wanted = features(b"ABC");
+    // 3/5, least count 3: signatures ABC, BC0, 00A, 3 postings; 0AB tests 3, after which 12 is dropped; C00 tests 2.
+    let (m, t) = asked(1, 3, 5);
+    let one = search_size(&cut, 5, &wanted, m, t);
+    assert_eq!((one.least, one.postings, one.candidates, one.touches, one.rows), (3, 3, 3, 8, vec![]));
+    // 2/5, least count 2: 0AB is a signature too, 5 postings; C00 tests 3, and finds 12.
+    let (m, t) = asked(1, 2, 5);
+    let one = search_size(&cut, 5, &wanted, m, t);
+    assert_eq!((one.least, one.postings, one.candidates, one.touches), (2, 5, 3, 8));
+    assert_eq!(search_sizes(&cut, &wanted, m, t), (8, vec![row(10, 2, 5), row(11, 2, 5), row(12, 2, 5)]));
+}
+
 #[test]
 fn the_most_touches_a_search_can_cost() {
     // 256 equal names of 64 bytes, least count 1: every posting of every list.
