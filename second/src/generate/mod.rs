@@ -1,0 +1,30 @@
+//! Inputs for comparisons, whole and damaged, one for each number under a seed. The kinds are those of `protocol`.
+//! What is rare in life (a name of 64 bytes, an allowance one below the count) is common here.
+
+mod cases;
+pub mod lines;
+pub mod names;
+pub mod queries;
+pub mod registers;
+pub mod words;
+
+use crate::protocol::Kind;
+use crate::random::Random;
+
+/// The input number `at` of a kind under a seed: for `lookup` a whole input, for the others one line of the protocol.
+pub fn input(kind: Kind, seed: u64, at: u64) -> Vec<u8> {
+    let mut random = Random::of(seed, kind as u64, at);
+    let make = match kind {
+        Kind::Lookup => return cases::lookup(&mut random),
+        Kind::Features => cases::features,
+        Kind::Likeness => cases::likeness,
+        Kind::Good => cases::good,
+        Kind::List => cases::list,
+        Kind::Build => cases::build,
+        Kind::Search => cases::search,
+        Kind::Frames => cases::frames,
+    };
+    let mut line = make(&mut random).into_bytes();
+    line.push(b'\n');
+    line
+}

@@ -1,0 +1,126 @@
+//! Names: fresh ones, ones like another, and ones that are refused.
+
+use crate::limits::NAME_BYTES;
+use crate::random::Random;
+
+const WORDS: [&str; 20] = [
+    "LANE",
+    "LANES",
+    "PLANE",
+    "POOL",
+    "LAP",
+    "SPA",
+    "DIVE",
+    "KIDS",
+    "EAST",
+    "WEST",
+    "HALL",
+    "BASIN",
+    "WAVE",
+    "P1",
+    "A",
+    "North Side",
+    "Olympic",
+    "learner",
+    "CAF\u{c9}",
+    "25m",
+];
+
+/// A name of a given length: of one letter, of two, of a few, or of any bytes but 0.
+pub fn of_length(random: &mut Random, length: usize) -> Vec<u8> {
+    let any: Vec<u8> = (1..=255).collect();
+    let letters = match random.below(8) {
+        0 => b"A".to_vec(),
+        1 | 2 => b"AB".to_vec(),
+        3 | 4 => b"ABCD".to_vec(),
+        5 => b"ABCDEFGHIJKLMNOPQRSTUVWXYZ".to_vec(),
+        6 => vec![1, 254, 255],
+        _ => any,
+    };
+    (0..length).map(|_| random.pick(&letters)).collect()
+}
+
+/// Words in a row, at most 64 bytes of them.
+fn of_words(random: &mut Random) -> Vec<u8> {
+    let words: Vec<&str> = (0..random.between(1, 3)).map(|_| random.pick(&WORDS)).collect();
+    let mut name = words.join(random.pick(&["", " ", "-"])).into_bytes();
+    name.truncate(NAME_BYTES);
+    name
+}
+
+/// A name, often of a length at an edge.
+pub fn fresh(random: &mut Random) -> Vec<u8> {
+    match random.below(10) {
+        0..=4 => of_words(random),
+        5..=7 => {
+            let length = random.between(1, 12);
+            of_length(random, length)
+        }
+        8 => {
+            let length = random.pick(&[1, 1, 2, 3, 63, 64, 64]);
+            of_length(random, length)
+        }
+        _ => {
+            let length = random.between(1, NAME_BYTES);
+            of_length(random, length)
+        }
+    }
+}
+
+/// A name of six or seven of three letters: names of these share a few features each and all have two sizes, so that
+/// searches drop candidates.
+pub fn even(random: &mut Random) -> Vec<u8> {
+    (0..random.between(6, 7)).map(|_| random.pick(b"ABC")).collect()
+}
+
+/// A short name, so that many of them fit into one index.
+pub fn short(random: &mut Random) -> Vec<u8> {
+    let length = random.between(1, 4);
+    of_length(random, length)
+}
+
+/// A name with one to three edits, still 1 to 64 bytes and without a 0 byte.
+pub fn like(random: &mut Random, name: &[u8]) -> Vec<u8> {
+    let mut other = name.to_vec();
+    for _ in 0..random.between(1, 3) {
+        let at = random.below(other.len());
+        let byte = if random.once_in(2) { random.between(1, 255) as u8 } else { random.pick(&other) };
+        match random.below(7) {
+            0 => other[at] = byte,
+            1 | 2 if other.len() < NAME_BYTES => other.insert(at, byte),
+            3 if other.len() > 1 => {
+                other.remove(at);
+            }
+            4 if other.len() < NAME_BYTES => other.push(byte),
+            5 if 2 * other.len() <= NAME_BYTES => other = [&other[..], &other[..]].concat(),
+            _ => {
+                let with = random.below(other.len());
+                other.swap(at, with);
+            }
+        }
+    }
+    other
+}
+
+/// A name that is refused: empty, too long, holding a 0 byte, or too long and holding one.
+pub fn bad(random: &mut Random) -> Vec<u8> {
+    match random.below(6) {
+        0 => Vec::new(),
+        1 | 2 => {
+            let length = random.pick(&[65, 65, 66, 67, 128, 254, 255]);
+            of_length(random, length)
+        }
+        3 | 4 => {
+            let mut name = fresh(random);
+            let at = random.below(name.len());
+            name[at] = 0;
+            name
+        }
+        _ => {
+            let mut name = of_length(random, 65);
+            let at = random.below(name.len());
+            name[at] = 0;
+            name
+        }
+    }
+}

@@ -1,0 +1,24 @@
+//! A second lookup, written from the rule (`docs/RULE.md`) alone and sharing nothing with the proved crates.
+//! It is naive on purpose: it follows the rule's words step by step, so that a reader can hold one beside the other.
+//!
+//! The rule: [`features`], [`measures`], [`index`] and [`good`], [`build`], [`search`], [`frames`], [`lookup`].
+//! A still more naive check of the search, by the definition of likeness: [`listed`].
+//! For comparisons: the line protocols [`protocol`], the inputs [`generate`], the runner [`differ`], and the
+//! lookups that are wrong on purpose, [`faults`].
+
+pub mod build;
+pub mod differ;
+pub mod faults;
+pub mod features;
+pub mod frames;
+pub mod generate;
+pub mod good;
+pub mod index;
+pub mod limits;
+pub mod listed;
+pub mod lookup;
+pub mod measures;
+pub mod protocol;
+pub mod random;
+pub mod refusal;
+pub mod search;

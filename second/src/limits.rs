@@ -1,0 +1,26 @@
+//! Every number that the rule fixes, once each.
+
+/// The most bytes of a name or query.
+pub const NAME_BYTES: usize = 64;
+/// The least size: a name of one byte.
+pub const LEAST_SIZE: u32 = 3;
+/// The greatest size: a name of [`NAME_BYTES`] bytes.
+pub const MOST_SIZE: u32 = 66;
+/// The greatest id.
+pub const MOST_ID: u32 = 65_535;
+/// The most names of an index; one more in a register is a refusal.
+pub const NAMES: usize = 256;
+/// The most postings of an index, and the most touches of a search.
+pub const POSTINGS: usize = 16_896;
+/// The greatest q of a threshold.
+pub const MOST_Q: u32 = 1000;
+/// What a build leaves in every word that is not part of the index.
+pub const BLANK: u32 = 4_294_967_295;
+/// The most bytes of a name in a frame, whose length is one byte.
+pub const FRAME_NAME: usize = 255;
+/// The most bytes of input that the program takes.
+pub const INPUT: usize = 65_536;
+/// The words of the program's index.
+pub const INDEX_WORDS: usize = 16_384;
+/// The rows of the program's row list.
+pub const ROWS: usize = 256;

@@ -1,0 +1,280 @@
+//! The line protocols by which another program can be compared with this one, part by part. README.md sets them out.
+//! One case a line in, one line out; `lookup` alone takes its input whole.
+
+use std::fmt::Write;
+use std::ops::Range;
+
+use crate::build::build;
+use crate::features::{features, judge};
+use crate::frames;
+use crate::good::good;
+use crate::index::list_for;
+use crate::lookup::lookup;
+use crate::measures::{least_count, searched, similar, Measure, Threshold};
+use crate::refusal::number_of;
+use crate::search::{search, AnswerRow, Query};
+
+/// What every lent byte holds before a call.
+pub const LENT_BYTE: u8 = 0xA5;
+/// What every lent word holds before a call.
+pub const LENT_WORD: u32 = 0xA5A5_A5A5;
+/// What every lent row holds before a call.
+pub const LENT_ROW: AnswerRow = AnswerRow { id: 165, shared: 165, size: 165 };
+
+/// The part of the rule that a protocol is for. A new one goes last, so that seeds keep their inputs.
+#[derive(Clone, Copy, Debug, PartialEq, Eq)]
+pub enum Kind {
+    Lookup,
+    Features,
+    Likeness,
+    Good,
+    List,
+    Build,
+    Search,
+    Frames,
+}
+
+impl Kind {
+    pub const ALL: [Kind; 8] =
+        [Kind::Lookup, Kind::Features, Kind::Likeness, Kind::Good, Kind::List, Kind::Build, Kind::Search, Kind::Frames];
+
+    pub fn word(self) -> &'static str {
+        match self {
+            Kind::Lookup => "lookup",
+            Kind::Features => "features",
+            Kind::Likeness => "likeness",
+            Kind::Good => "good",
+            Kind::List => "list",
+            Kind::Build => "build",
+            Kind::Search => "search",
+            Kind::Frames => "frames",
+        }
+    }
+
+    pub fn of(word: &str) -> Option<Kind> {
+        Kind::ALL.into_iter().find(|kind| kind.word() == word)
+    }
+
+    /// Whether an input is one line, so that many can be given at once.
+    pub fn by_line(self) -> bool {
+        self != Kind::Lookup
+    }
+
+    /// The whole output for a whole input, or why the input does not follow the protocol.
+    pub fn answer(self, input: &[u8]) -> Result<Vec<u8>, String> {
+        let line: fn(&mut Words<'_>) -> Result<String, String> = match self {
+            Kind::Lookup => return Ok(lookup(input)),
+            Kind::Features => features_line,
+            Kind::Likeness => likeness_line,
+            Kind::Good => good_line,
+            Kind::List => list_line,
+            Kind::Build => build_line,
+            Kind::Search => search_line,
+            Kind::Frames => frames_line,
+        };
+        let text = std::str::from_utf8(input).map_err(|_| "not text".to_string())?;
+        let mut output = String::new();
+        for (at, case) in text.lines().enumerate() {
+            let mut words = Words { rest: case.split_ascii_whitespace().collect() };
+            let answered = line(&mut words).and_then(|answer| words.end().map(|()| answer));
+            output += &answered.map_err(|why| format!("line {}: {why}", at + 1))?;
+            output.push('\n');
+        }
+        Ok(output.into_bytes())
+    }
+}
+
+/// The words of a case that are still to be read.
+struct Words<'a> {
+    rest: std::collections::VecDeque<&'a str>,
+}
+
+impl Words<'_> {
+    fn word(&mut self, what: &str) -> Result<&str, String> {
+        self.rest.pop_front().ok_or(format!("no {what}"))
+    }
+
+    /// A number in decimal, or in hexadecimal after `0x`, that fits its type.
+    fn number<T: TryFrom<u64>>(&mut self, what: &str) -> Result<T, String> {
+        let word = self.word(what)?;
+        let number = match word.strip_prefix("0x") {
+            Some(digits) => u64::from_str_radix(digits, 16),
+            None => word.parse(),
+        };
+        number.ok().and_then(|number| T::try_from(number).ok()).ok_or(format!("{what} is {word}"))
+    }
+
+    /// Bytes as hexadecimal pairs, or `-` for none.
+    fn bytes(&mut self, what: &str) -> Result<Vec<u8>, String> {
+        let word = self.word(what)?;
+        let digits = if word == "-" { "" } else { word };
+        let pairs: Option<Vec<u8>> = digits
+            .as_bytes()
+            .chunks(2)
+            .map(|pair| match pair {
+                [high, low] => {
+                    let value = |digit: &u8| char::from(*digit).to_digit(16);
+                    Some((value(high)? * 16 + value(low)?) as u8)
+                }
+                _ => None,
+            })
+            .collect();
+        pairs.ok_or(format!("{what} is {word}"))
+    }
+
+    /// All words that are left, as the 32-bit words of a slice.
+    fn slice(&mut self) -> Result<Vec<u32>, String> {
+        (0..self.rest.len()).map(|_| self.number("word")).collect()
+    }
+
+    fn end(&self) -> Result<(), String> {
+        self.rest.front().map_or(Ok(()), |word| Err(format!("{word} is one too many")))
+    }
+}
+
+/// Numbers with one space between them.
+pub fn spaced<T: ToString>(numbers: &[T]) -> String {
+    numbers.iter().map(ToString::to_string).collect::<Vec<_>>().join(" ")
+}
+
+/// Bytes as hexadecimal pairs, or `-` for none.
+pub fn pairs(bytes: &[u8]) -> String {
+    if bytes.is_empty() {
+        return "-".to_string();
+    }
+    bytes.iter().fold(String::new(), |mut text, byte| {
+        let _ = write!(text, "{byte:02X}");
+        text
+    })
+}
+
+/// `HEAD TAIL`, or only the head where the tail is empty.
+fn joined(head: String, tail: &str) -> String {
+    if tail.is_empty() {
+        head
+    } else {
+        format!("{head} {tail}")
+    }
+}
+
+fn features_line(case: &mut Words<'_>) -> Result<String, String> {
+    let name = case.bytes("name")?;
+    Ok(joined(number_of(judge(&name)).to_string(), &spaced(&features(&name))))
+}
+
+fn likeness_line(case: &mut Words<'_>) -> Result<String, String> {
+    let (measure, p, q) = (case.number("measure")?, case.number("p")?, case.number("q")?);
+    let (x, y, c): (u16, u16, u16) = (case.number("x")?, case.number("y")?, case.number("c")?);
+    let (x, y, c) = (u32::from(x), u32::from(y), u32::from(c));
+    let judged = Measure::of(measure).and_then(|measure| Ok((measure, Threshold::of(p, q)?)));
+    Ok(match judged {
+        Err(refusal) => format!("{} 0 0 0 0 0", refusal.number()),
+        Ok((measure, threshold)) => {
+            let similar = u8::from(similar(measure, threshold, x, y, c));
+            let searched = u8::from(searched(measure, threshold, x, y));
+            let (p, q) = threshold.lowest();
+            format!("0 {similar} {searched} {} {p} {q}", least_count(measure, threshold, x, y))
+        }
+    })
+}
+
+fn good_line(case: &mut Words<'_>) -> Result<String, String> {
+    Ok(u8::from(good(&case.slice()?)).to_string())
+}
+
+/// Where a list stands among the words that it is a part of.
+fn range_of(words: &[u32], list: &[u32]) -> Range<usize> {
+    let start = (list.as_ptr() as usize - words.as_ptr() as usize) / size_of::<u32>();
+    start..start + list.len()
+}
+
+fn list_line(case: &mut Words<'_>) -> Result<String, String> {
+    let (size, feature) = (case.number("size")?, case.number("feature")?);
+    let words = case.slice()?;
+    let list = list_for(&words, size, feature);
+    if list.is_empty() {
+        return Ok("0 0".to_string());
+    }
+    let range = range_of(&words, list);
+    Ok(joined(format!("{} {}", range.start, range.len()), &spaced(&words[range])))
+}
+
+fn build_line(case: &mut Words<'_>) -> Result<String, String> {
+    let (room, register) = (case.number("length")?, case.bytes("register")?);
+    let mut words = vec![LENT_WORD; room];
+    let built = build(&register, &mut words);
+    Ok(joined(format!("{} {}", built.number, built.line), &spaced(&words)))
+}
+
+fn search_line(case: &mut Words<'_>) -> Result<String, String> {
+    let (measure, p, q) = (case.number("measure")?, case.number("p")?, case.number("q")?);
+    let (allowance, room) = (case.number("allowance")?, case.number("room")?);
+    let query = Query { measure, p, q, allowance, name: case.bytes("query")? };
+    let mut rows = vec![LENT_ROW; room];
+    let answer = search(&case.slice()?, &query, &mut rows);
+    let rows: Vec<String> = rows.iter().map(|row| format!("{}:{}:{}", row.id, row.shared, row.size)).collect();
+    let head = format!("{} {} {} {} {}", answer.number, answer.rows, answer.touches, answer.p, answer.q);
+    Ok(joined(head, &spaced(&rows)))
+}
+
+fn frames_line(case: &mut Words<'_>) -> Result<String, String> {
+    match case.word("read or write")? {
+        "read" => read_line(case),
+        "write" => write_line(case),
+        other => Err(format!("{other} is neither read nor write")),
+    }
+}
+
+fn read_line(case: &mut Words<'_>) -> Result<String, String> {
+    let (kind, room, line) = (case.bytes("kind")?, case.number("room")?, case.bytes("line")?);
+    let mut buffer = vec![LENT_BYTE; room];
+    let fields = match kind[..] {
+        [frames::NAME] => {
+            let frame = frames::read_name(&line, &mut buffer);
+            format!("{} {} {}", frame.number, frame.id, frame.length)
+        }
+        [frames::QUERY] => {
+            let frame = frames::read_query(&line, &mut buffer);
+            let threshold = format!("{} {} {}", frame.measure, frame.p, frame.q);
+            format!("{} {threshold} {} {}", frame.number, frame.allowance, frame.length)
+        }
+        [frames::ROW] => {
+            let frame = frames::read_row(&line);
+            format!("{} {} {} {}", frame.number, frame.id, frame.shared, frame.size)
+        }
+        [frames::END] => {
+            let frame = frames::read_end(&line);
+            format!("{} {} {} {} {}", frame.number, frame.rows, frame.touches, frame.p, frame.q)
+        }
+        [frames::REFUSED] => {
+            let frame = frames::read_refused(&line);
+            format!("{} {} {}", frame.number, frame.refusal, frame.touches)
+        }
+        _ => return Err("no such kind".to_string()),
+    };
+    Ok(format!("{fields} {}", pairs(&buffer)))
+}
+
+fn write_line(case: &mut Words<'_>) -> Result<String, String> {
+    let (kind, room) = (case.bytes("kind")?, case.number("room")?);
+    let mut buffer = vec![LENT_BYTE; room];
+    let written = match kind[..] {
+        [frames::NAME] => frames::write_name(case.number("id")?, &case.bytes("name")?, &mut buffer),
+        [frames::QUERY] => {
+            let (measure, p, q) = (case.number("measure")?, case.number("p")?, case.number("q")?);
+            let (allowance, name) = (case.number("allowance")?, case.bytes("query")?);
+            frames::write_query(measure, p, q, allowance, &name, &mut buffer)
+        }
+        [frames::ROW] => {
+            let (id, shared, size) = (case.number("id")?, case.number("shared")?, case.number("size")?);
+            frames::write_row(id, shared, size, &mut buffer)
+        }
+        [frames::END] => {
+            let (rows, touches) = (case.number("rows")?, case.number("touches")?);
+            frames::write_end(rows, touches, case.number("p")?, case.number("q")?, &mut buffer)
+        }
+        [frames::REFUSED] => frames::write_refused(case.number("number")?, case.number("touches")?, &mut buffer),
+        _ => return Err("no such kind".to_string()),
+    };
+    Ok(format!("{} {} {}", written.number, written.length, pairs(&buffer)))
+}
