@@ -1,7 +1,7 @@
 -- Laws of ascending sequences and ascending lists, by index, and of what stands in a list, by its place.
 -- Cited by `index` and `search`.
 -- Assumes nothing.
-use mathlib.Core.Path.{_≡_, refl, sym, ap, _∙_}
+use mathlib.Core.Path.{_≡_, refl, sym, ap, subst, _∙_}
 use mathlib.Core.Logic.{⊎-elim}
 use mathlib.Core.Bool.{Bool, true, false, _||_, true≢false, false≢true}
 use mathlib.Core.List.{List, [], _∷_}
@@ -17,18 +17,22 @@ use Rattle.laws.proofs.Order.{le-or-lt}
 
 -- ---- sequences
 
+-- where each number is related to the next, each is related to all later ones
+pub chain : (R : ℕ → ℕ → Type 0) → ((i j k : ℕ) → R i j → R j k → R i k) → (n : ℕ) → ((i : ℕ) → i + 1 < n → R i (i + 1))
+    → (i j : ℕ) → i < j → j < n → R i j
+chain R trans n h i zero l m = absurd (omega arith)
+chain R trans n h i (suc j) l m =
+    let s : R j (suc j) = subst (λ (k : ℕ). R j k) (add-one j) (h j (omega arith)) in
+    let k : i ≤ j = omega arith in
+    let later : i < j → R i j = λ p. chain R trans n h i j p (omega arith) in
+    ⊎-elim
+    (λ (p : i ≡ j). subst (λ (k : ℕ). R k (suc j)) (sym p) s)
+    (λ (p : i < j). trans i j (suc j) (later p) s)
+    (eq-or-lt-of-le k)
+
 -- where each value is below the next, each is below all later ones
 pub rises : (n : ℕ) (f : ℕ → ℕ) → ((i : ℕ) → i + 1 < n → f i < f (i + 1)) → (i j : ℕ) → i < j → j < n → f i < f j
-rises n f h i zero l m = absurd (omega arith)
-rises n f h i (suc j) l m =
-    let s = h j (omega arith) in
-    let e = ap f (add-one j) in
-    let k : i ≤ j = omega arith in
-    let later : i < j → f i < f j = λ p. rises n f h i j p (omega arith) in
-    ⊎-elim
-    (λ (p : i ≡ j). let q = ap f p in omega arith)
-    (λ (p : i < j). let q = later p in omega arith)
-    (eq-or-lt-of-le k)
+rises n f = chain (λ (i j : ℕ). f i < f j) (λ i j k p q. omega arith) n
 
 -- where earlier values are below later ones, no two are equal
 pub rises-apart : (n : ℕ) (f : ℕ → ℕ) → ((i j : ℕ) → i < j → j < n → f i < f j) → (i j : ℕ) → i < n → j < n → f i ≡ f j → i ≡ j

@@ -4,3 +4,5 @@ pub mod First
 pub mod Order
 pub mod Ascending
 pub mod Halving
+pub mod Tests
+pub mod Found

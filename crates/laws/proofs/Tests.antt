@@ -1,0 +1,24 @@
+-- Laws of tests: two that pass together are equal, one that cannot pass fails, and both halves of `&&`.
+-- Cited by `likeness`.
+-- Assumes nothing.
+use mathlib.Core.Path.{_≡_, refl, sym, _∙_}
+use mathlib.Core.Bool.{Bool, true, false, _&&_, false≢true}
+
+-- two tests that pass together are equal
+pub same-test : (a b : Bool) → (a ≡ true → b ≡ true) → (b ≡ true → a ≡ true) → a ≡ b
+same-test true b f g = sym (f refl)
+same-test false true f g = g refl
+same-test false false f g = refl
+
+-- a test that cannot pass fails
+pub test-fails : (a : Bool) → (a ≡ true → ⊥) → a ≡ false
+test-fails true h = absurd (h refl)
+test-fails false h = refl
+
+-- a test that failed does not pass
+pub test-failed : (a : Bool) → a ≡ false → a ≡ true → ⊥
+test-failed a e h = false≢true (sym e ∙ h)
+
+pub and-parts : (a b : Bool) → a && b ≡ true → (a ≡ true) × (b ≡ true)
+and-parts true b e = (refl, e)
+and-parts false b e = absurd (false≢true e)
