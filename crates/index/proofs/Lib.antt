@@ -1,1 +1,5 @@
 mod Cases
+mod Digits
+mod Search
+mod Facts
+pub mod Laws

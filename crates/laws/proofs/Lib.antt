@@ -7,3 +7,6 @@ pub mod Tables
 pub mod Filter
 pub mod Members
 pub mod Sort
+pub mod Ascending
+pub mod Halving
+pub mod Found
