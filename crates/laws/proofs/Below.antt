@@ -4,7 +4,7 @@ use mathlib.Core.Path.{_≡_, refl, sym, ap, ap₂, _∙_}
 use mathlib.Core.Logic.{⊎-elim}
 use mathlib.Core.Bool.{Bool, true, false, cond, _&&_, _||_, true≢false, false≢true}
 use Prim.Native.Nat.{ℕ, zero, suc, _+_, _*_, _≤_, _<_}
-use native.Mathlib.Nat.{eq-or-lt-of-le, add-zero, suc-mul}
+use native.Mathlib.Nat.{eq-or-lt-of-le, add-zero, suc-mul, mul-zero, mul-add}
 use native.Mathlib.Numerals.{add-one}
 use native.Mathlib.Omega.{arith}
 use Rattle.laws.specs.Below.{allBelow, anyBelow, sumBelow, countBelow}
@@ -165,3 +165,60 @@ count-below-fewer (suc n) t i h e =
     by-test : (b : Bool) → countBelow n t < n → countBelow n t + cond b 1 0 < suc n
     by-test true h = omega arith
     by-test false h = omega arith
+
+-- what passes one test passes the other
+pub count-below-mono : (n : ℕ) (t u : ℕ → Bool) → ((i : ℕ) → i < n → t i ≡ true → u i ≡ true) → countBelow n t ≤ countBelow n u
+count-below-mono n t u h =
+    sum-below-le n (λ (i : ℕ). cond (t i) 1 0) (λ (i : ℕ). cond (u i) 1 0) (λ i l. by-test (t i) (u i) (h i l))
+  where
+    by-test : (a b : Bool) → (a ≡ true → b ≡ true) → cond a 1 0 ≤ cond b 1 0
+    by-test true true e = omega arith
+    by-test true false e = absurd (false≢true (e refl))
+    by-test false true e = omega arith
+    by-test false false e = omega arith
+
+-- and one number passes only the other
+pub count-below-more : (n : ℕ) (t u : ℕ → Bool) → ((i : ℕ) → i < n → t i ≡ true → u i ≡ true)
+    → (j : ℕ) → j < n → t j ≡ false → u j ≡ true → countBelow n t < countBelow n u
+unfolding sumBelow
+count-below-more zero t u h j l a b = absurd (omega arith)
+count-below-more (suc n) t u h j l a b =
+    let m : j ≤ n = omega arith in
+    ⊎-elim
+    (λ (s : j ≡ n).
+    let c = count-below-mono n t u (λ i k. h i (omega arith)) in
+    rw (ap t (sym s) ∙ a, ap u (sym s) ∙ b) (omega arith))
+    (λ (s : j < n). by-test (t n) (u n) (h n (omega arith)) (count-below-more n t u (λ i k. h i (omega arith)) j s a b))
+    (eq-or-lt-of-le m)
+  where
+    by-test : (c d : Bool) → (c ≡ true → d ≡ true) → countBelow n t < countBelow n u → countBelow n t + cond c 1 0 < countBelow n u + cond d 1 0
+    by-test true true e k = omega arith
+    by-test true false e k = absurd (false≢true (e refl))
+    by-test false true e k = omega arith
+    by-test false false e k = omega arith
+
+-- a sum of sums, the other way round
+pub sum-below-swap : (n m : ℕ) (f : ℕ → ℕ → ℕ)
+    → sumBelow n (λ (i : ℕ). sumBelow m (λ (j : ℕ). f i j)) ≡ sumBelow m (λ (j : ℕ). sumBelow n (λ (i : ℕ). f i j))
+unfolding sumBelow
+sum-below-swap zero m f = sym (all-zero m)
+  where
+    all-zero : (m : ℕ) → sumBelow m (λ (j : ℕ). 0) ≡ 0
+    all-zero zero = refl
+    all-zero (suc m) = rw (all-zero m)
+sum-below-swap (suc n) m f =
+    ap (λ (s : ℕ). s + sumBelow m (λ (j : ℕ). f n j)) (sum-below-swap n m f)
+    ∙ join m (λ (j : ℕ). sumBelow n (λ (i : ℕ). f i j)) (λ (j : ℕ). f n j)
+  where
+    join : (m : ℕ) (a b : ℕ → ℕ) → sumBelow m a + sumBelow m b ≡ sumBelow m (λ (j : ℕ). a j + b j)
+    join zero a b = refl
+    join (suc m) a b = let h = join m a b in omega arith
+
+-- a number times a sum
+pub sum-below-times : (n k : ℕ) (f : ℕ → ℕ) → sumBelow n (λ (i : ℕ). k * f i) ≡ k * sumBelow n f
+unfolding sumBelow
+sum-below-times zero k f = rw (mul-zero k)
+sum-below-times (suc n) k f =
+    let h = sum-below-times n k f in
+    let d = mul-add k (sumBelow n f) (f n) in
+    omega arith

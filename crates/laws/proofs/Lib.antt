@@ -10,3 +10,4 @@ pub mod Sort
 pub mod Ascending
 pub mod Halving
 pub mod Found
+pub mod Sums

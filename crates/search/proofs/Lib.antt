@@ -1,4 +1,6 @@
 pub mod Candidates
 pub mod Tables
 pub mod Testing
+pub mod Laws
+pub mod Work
 mod Cases
