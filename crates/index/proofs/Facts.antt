@@ -68,7 +68,7 @@ names-facts w g =
 -- ---- the rows
 
 -- row r stands before row s
-pub Before : List ℕ → ℕ → ℕ → Type 0
+unfoldable pub Before : List ℕ → ℕ → ℕ → Type 0
 Before w r s = (rowSize w r < rowSize w s) ⊎ ((rowSize w r ≡ rowSize w s) × (rowFeature w r < rowFeature w s))
 
 before-cases : (a b x y : ℕ) → (ltb a b || (eqb a b && ltb x y)) ≡ true → (a < b) ⊎ ((a ≡ b) × (x < y))

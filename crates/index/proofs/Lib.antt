@@ -3,3 +3,4 @@ mod Digits
 mod Search
 mod Facts
 pub mod Laws
+mod Rows

@@ -9,6 +9,11 @@ use Rattle.laws.specs.First.{firstFrom}
 use Rattle.index.specs.Words.{rowCount, rowSize, rowFeature, rowLength, listStart, listAt}
 use Rattle.index.specs.Good.{goodOf}
 use Rattle.index.specs.Part.{Span, none}
+use Rattle.index.specs.Built.{keyOf}
+
+-- a row's size and feature as one number, by which the rows ascend
+unfoldable pub rowKey : List ℕ → ℕ → ℕ
+rowKey w r = keyOf (rowSize w r) (rowFeature w r)
 
 -- whether row r is that of the size and the feature
 unfoldable pub rowIs : List ℕ → ℕ → ℕ → ℕ → Bool

@@ -2,11 +2,15 @@
 // the definitions: specs/.
 ghost use mathlib.Core.Path.{_≡_};
 ghost use mathlib.Core.Bool.{cond};
-ghost use Prim.Native.Nat.{ℕ, _+_, _*_, _^_, _≤_, _<_};
+ghost use Prim.Native.Nat.{ℕ, _+_, _-_, _*_, _^_, _≤_, _<_};
 ghost use lib.ListN.{length, getD};
 ghost use lib.Dec.{ltb};
 ghost use Rattle.laws.specs.Lists.{member, Ascending, countOf};
+ghost use Rattle.laws.specs.Below.{countBelow};
 ghost use Rattle.index.specs.Words.{nameCount, rowCount, postingCount, namesStart, nameId, nameSize, rowWidth, rowStart, rowSize, rowFeature, rowPlace, rowLength, postingsStart, posting};
+ghost use Rattle.index.specs.Good.{Good};
+ghost use Rattle.index.specs.Part.{Part};
+ghost use Rattle.index.specs.Lists.{rowKey, spanAt, spanIn};
 
 // ---- the layout: nothing else knows where a word stands
 
@@ -97,6 +101,14 @@ pub fn row_length(words: &[u32], r: usize) -> usize
     wide(row_word(words, r, 3))
 }
 
+// The size and the feature of row r as one number.
+fn row_key(words: &[u32], r: usize) -> u64
+    requires { ⌜ rowStart (now words) r + rowWidth ≤ length (now words) ⌝ }
+    ensures { λ v. ⌜ v ≡ rowKey (now (words .entry)) r ⌝ }
+{
+    row_size(words, r) as u64 * 4294967296 + row_feature(words, r)
+}
+
 // Posting k of all.
 pub fn posting(words: &[u32], k: usize) -> u32
     requires { ⌜ (namesStart ≤ length (now words)) × (postingsStart (now words) + k < length (now words)) ⌝ }
@@ -164,4 +176,57 @@ pub fn holds(list: &[u32], id: u32) -> bool
         return list[at] == id;
     }
     false
+}
+
+// ---- the list of a size and a feature
+
+// The first row from `from` on, of those before `to`, whose size and feature as one number is not below the key; `to` where all are.
+pub fn rows_below(words: &[u32], from: usize, to: usize, key: u64) -> usize
+    requires { ⌜ Good (now words) × (from ≤ to) × (to ≤ rowCount (now words)) ⌝ }
+    ensures { λ r. ⌜ r ≡ from + countBelow (to - from) (λ (i : ℕ). ltb (rowKey (now (words .entry)) (from + i)) key) ⌝ }
+{
+    let n = to - from;
+    let mut k = highest(n + 1);
+    let rest = n + 1 - power(k);
+    let mut base: usize = 0;
+    if 0 < rest {
+        if row_key(words, from + (rest - 1)) < key {
+            base = rest;
+        }
+    }
+    while 0 < k {
+        k -= 1;
+        let at = base + power(k) - 1;
+        base += power_if(row_key(words, from + at) < key, k);
+    }
+    from + base
+}
+
+// The list of row r, as that part of the words.
+pub fn list_at(words: &[u32], r: usize) -> &[u32]
+    requires { ⌜ Good (now words) × (r < rowCount (now words)) ⌝ }
+    ensures { λ l. ⌜ Part (words .entry) l (spanAt (now (words .entry)) r) ⌝ }
+{
+    let start = 3 + name_count(words) + 4 * row_count(words) + row_place(words, r);
+    let end = start + row_length(words, r);
+    &words[start..end]
+}
+
+// The list of a size and a feature of a good index, as that part of the words; the empty part where there is no such row.
+pub fn list_for_good(words: &[u32], size: u32, feature: u64) -> &[u32]
+    requires { ⌜ Good (now words) ⌝ }
+    ensures { λ l. ⌜ Part (words .entry) l (spanIn (now (words .entry)) size feature) ⌝ }
+{
+    if 4294967295 < feature {
+        return &words[0..0];
+    }
+    let rows = row_count(words);
+    let key = size as u64 * 4294967296 + feature;
+    let r = rows_below(words, 0, rows, key);
+    if r < rows {
+        if row_key(words, r) == key {
+            return list_at(words, r);
+        }
+    }
+    &words[0..0]
 }
