@@ -11,7 +11,9 @@ use lib.ListN.{length, getD, take, set, length-set, List·getD-eq-default}
 use lib.Seq.{take-suc, take-suc-set, length-take-le, getD-set-same, getD-set-other}
 use lib.Dec.{eqb, ltb, leb}
 use borrow.Author.Tests.{eq-eqb, ne-eqb, eqb-true, eqb-false, lt-ltb, le-ltb, le-leb, lt-leb}
-use Rattle.laws.specs.Lists.{member, Distinct, tabulate}
+use native.Mathlib.Nat.{eq-or-lt-of-le}
+use Rattle.laws.specs.Lists.{member, Distinct, countOf, tabulate}
+use Rattle.laws.proofs.Halving.{count-index, count-below-place}
 use Rattle.laws.proofs.Lists.{eqb-same, member-append, distinct-snoc, length-tabulate, getD-tabulate, tabulate-ext}
 use Rattle.laws.proofs.Tables.{table-set, tabulate-self, length-members}
 use Rattle.laws.proofs.Order.{eq-or-ne, le-or-lt}
@@ -173,3 +175,32 @@ met-keep counts met m i v b h was one =
     by-test : (j : ℕ) (c : Bool) → eqb j i ≡ c → leb 1 (getD counts j 0) ≡ leb 1 (cond c v (getD counts j 0))
     by-test j true q = rw (le-leb 1 v one) (ap (λ (n : ℕ). leb 1 (getD counts n 0)) (eqb-true j i q) ∙ le-leb 1 (getD counts i 0) was)
     by-test j false q = refl
+
+-- ---- a name is found by its id among the name words
+
+pub name-place : (ns : List ℕ) → Names ns → (i id : ℕ) → i < length ns → idAt ns i ≡ id → countOf (λ (y : ℕ). ltb y (id * 256)) ns ≡ i
+name-place ns n i id h e =
+    count-index (λ (y : ℕ). ltb y (id * 256)) ns
+    ∙ (count-below-place (λ (j : ℕ). ltb (getD ns j 0) (id * 256)) (length ns) i (omega arith)
+    (λ j k. let r = n .rising j i k h in lt-ltb (getD ns j 0) (id * 256) (omega arith))
+    (λ j k l.
+    ⊎-elim
+    (λ (q : i ≡ j). rw (← q) (le-ltb (getD ns i 0) (id * 256) (omega arith)))
+    (λ (q : i < j). let r = n .rising i j q l in le-ltb (getD ns j 0) (id * 256) (omega arith))
+    (eq-or-lt-of-le k)))
+
+-- counts stay small
+pub tallied-bound : (ns l counts : List ℕ) (b : ℕ) → ((i : ℕ) → getD counts i 0 ≤ b) → (i : ℕ) → getD (tallied ns l counts) i 0 ≤ b + 1
+unfolding tallied
+tallied-bound ns l counts b h i =
+    ⊎-elim
+    (λ (q : mostNames ≤ i).
+    let z = List·getD-eq-default (tabulate (λ (j : ℕ). getD counts j 0 + cond (holdsAt ns l j) 1 0) mostNames) 0 {n = i} (rw length-tabulate q) in
+    omega arith)
+    (λ (q : i < mostNames).
+    rw (getD-tabulate (λ (j : ℕ). getD counts j 0 + cond (holdsAt ns l j) 1 0) mostNames i 0 q) (by-test (holdsAt ns l i) (h i)))
+    (le-or-lt mostNames i)
+  where
+    by-test : (t : Bool) → getD counts i 0 ≤ b → getD counts i 0 + cond t 1 0 ≤ b + 1
+    by-test true k = omega arith
+    by-test false k = omega arith

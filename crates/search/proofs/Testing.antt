@@ -18,7 +18,7 @@ use Rattle.laws.proofs.Filter.{filter-nil, filter-snoc, length-filter, member-f
 use Rattle.laws.proofs.Tables.{table-of}
 use Rattle.laws.proofs.Order.{eq-or-ne, le-or-lt}
 use Rattle.index.specs.Good.{mostNames}
-use Rattle.search.specs.Tables.{holdsAt, MetBy, testedAt, tested}
+use Rattle.search.specs.Tables.{idAt, holdsAt, MetBy, testedAt, tested}
 
 -- the element at a place is in the list
 member-at : (l : List ℕ) (k : ℕ) → k < length l → member (getD l k 0) l ≡ true
@@ -222,3 +222,19 @@ module _ (ns l : List ℕ) (left least : ℕ) (counts₀ met₀ : List ℕ) (m�
           → b && leb 1 (testedAt ns l left least counts₀ i) ≡ leb 1 (cond b (testedAt ns l left least counts₀ i) (getD counts₀ i 0))
       those-left i true q = refl
       those-left i false q = sym (ap (leb 1) (none i q))
+
+-- ---- what a test makes of one count
+
+module _ (ns l : List ℕ) (left least : ℕ) (counts : List ℕ) (i c : ℕ) (there : i < length ns) (one : 1 ≤ getD counts i 0)
+    (e : c ≡ getD counts i 0 + cond (member (idAt ns i) l) 1 0) where
+  held : getD counts i 0 + cond (holdsAt ns l i) 1 0 ≡ c
+  unfolding holdsAt
+  held = rw (lt-ltb i (length ns) there) (sym e)
+
+  pub tested-drops : c + left < least → testedAt ns l left least counts i ≡ 0
+  unfolding testedAt
+  tested-drops h = rw (ne-eqb (getD counts i 0) 0 (λ z. omega arith), held, lt-ltb (c + left) least h)
+
+  pub tested-stays : least ≤ c + left → testedAt ns l left least counts i ≡ c
+  unfolding testedAt
+  tested-stays h = rw (ne-eqb (getD counts i 0) 0 (λ z. omega arith), held, le-ltb (c + left) least h)

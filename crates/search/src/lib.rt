@@ -1,4 +1,14 @@
 // The counted search over plain lent slices. The rule: docs/RULE.md, "The counted search"; the definitions: specs/.
+ghost use mathlib.Core.Path.{_≡_};
+ghost use mathlib.Core.List.{List};
+ghost use Prim.Native.Nat.{ℕ, _+_, _*_, _≤_, _<_};
+ghost use lib.ListN.{length, getD, take, drop};
+ghost use lib.Dec.{eqb, leb};
+ghost use mathlib.Core.Bool.{cond};
+ghost use Rattle.laws.specs.Lists.{Ascending, member, tabulate};
+ghost use Rattle.laws.specs.Below.{countBelow};
+ghost use Rattle.index.specs.Good.{mostNames};
+ghost use Rattle.search.specs.Tables.{Names, Named, MetBy, tallied, tested};
 
 // What a search answers. specs/Answers.antt sets out the number and the values of each case.
 pub enum Answer {
@@ -12,4 +22,75 @@ pub enum Answer {
         number: u8,
         touches: u32,
     },
+}
+
+// ---- one list against the tables by a name's place
+
+// One more at each name that the list holds; a name that is met first is put behind those met. Answers how many are met.
+fn tally(
+    names: &[u32],
+    list: &[u32],
+    counts: &mut [u32],
+    met: &mut [usize],
+    already: usize,
+) -> usize
+    requires { ⌜ Names (now names) × Ascending (now names) × Ascending (now list) × Named (now names) (now list) ⌝ }
+    requires { ⌜ (length (now counts) ≡ mostNames) × (length (now met) ≡ mostNames) × MetBy (now counts) (now met) already × ((i : ℕ) → getD (now counts) i 0 ≤ 65535) ⌝ }
+    ensures { λ r. ⌜ (now (counts .exit) ≡ tallied (now (names .entry)) (now (list .entry)) (now (counts .entry))) × MetBy (now (counts .exit)) (now (met .exit)) r ⌝ }
+{
+    let mut m = already;
+    let mut k = 0;
+    while k < list.len() {
+        let i = index::place_in(names, list[k] * 256);
+        let count = counts[i];
+        if count == 0 {
+            met[m] = i;
+            m += 1;
+        }
+        counts[i] = count + 1;
+        k += 1;
+    }
+    m
+}
+
+// The count after a test: one more where the list holds the id.
+fn counted(list: &[u32], id: u32, count: u32) -> u32
+    requires { ⌜ Ascending (now list) × (count ≤ 65535) ⌝ }
+    ensures { λ r. ⌜ (r ≡ count + cond (member id (now (list .entry))) 1 0) × (r ≤ 65536) ⌝ }
+{
+    if index::holds(list, id) {
+        return count + 1;
+    }
+    count
+}
+
+// Tests each candidate against the list, and drops those that stay below `least` with `left` more. Answers how many remain.
+fn sift(
+    names: &[u32],
+    list: &[u32],
+    counts: &mut [u32],
+    met: &mut [usize],
+    already: usize,
+    left: u32,
+    least: u32,
+) -> usize
+    requires { ⌜ (length (now names) ≤ mostNames) × Ascending (now list) × (left ≤ 65535) ⌝ }
+    requires { ⌜ (length (now counts) ≡ mostNames) × (length (now met) ≡ mostNames) × MetBy (now counts) (now met) already × ((i : ℕ) → getD (now counts) i 0 ≤ 65535) × ((i : ℕ) → 1 ≤ getD (now counts) i 0 → i < length (now names)) ⌝ }
+    ensures { λ r. ⌜ (now (counts .exit) ≡ tested (now (names .entry)) (now (list .entry)) left least (now (counts .entry))) × MetBy (now (counts .exit)) (now (met .exit)) r ⌝ }
+{
+    let mut m = 0;
+    let mut k = 0;
+    while k < already {
+        let i = met[k];
+        let count = counted(list, names[i] / 256, counts[i]);
+        k += 1;
+        if count + left < least {
+            counts[i] = 0;
+        } else {
+            counts[i] = count;
+            met[m] = i;
+            m += 1;
+        }
+    }
+    m
 }

@@ -1,0 +1,182 @@
+-- `tally` meets its contract: after k postings, the counts are tallied over them, and those met are those with a count.
+use mathlib.Core.Path.{_≡_, refl, sym, ap, subst₂, _∙_}
+use mathlib.Core.Logic.{⊎-elim}
+use mathlib.Core.List.{List}
+use Prim.Native.Nat.{ℕ, _+_, _*_, _≤_, _<_, _-_}
+use native.Mathlib.Omega.{arith}
+use lib.ListN.{length, getD, take, set, length-set}
+use lib.Seq.{take-all}
+use Rattle.laws.proofs.Members.{member-at}
+use Rattle.laws.proofs.Sort.{ascending-distinct}
+use Rattle.index.specs.Good.{mostNames}
+use Rattle.search.specs.Tables.{idAt, Names, Named, MetBy, tallied}
+use Rattle.search.proofs.Tables.{tallied-nil, tallied-step, tallied-bound, name-place, met-room, met-push, met-keep}
+use Rattle.search.proofs.Testing.{distinct-fresh}
+use Rattle.search.proofs.tally.Statement.{statement}
+use Rattle.search.proofs.tally.Tie as tie
+
+abbrev Inv-loop : tie.InvT-loop
+Inv-loop names list counts₀ met₀ already m₀ k₀ counts met m k =
+    (k ≤ length list) × (length counts ≡ mostNames) × (length met ≡ mostNames) × (counts ≡ tallied names (take k list) counts₀) × MetBy counts met m
+
+abbrev μ-loop : tie.MeasureT-loop
+μ-loop names list counts₀ met₀ already m₀ k₀ counts met m k = length list - k
+
+-- the posting's name
+named : (c : tie.In-loop Inv-loop μ-loop) → (i : ℕ) × (i < length (c .before .before .before .before .before .before .args .names .now)) × (idAt (c .before .before .before .before .before .before .args .names .now) i ≡ getD (c .before .before .before .before .before .before .args .list .now) (c .before .loop .k) 0)
+named c =
+    let b = c .before .before .before .before .before .before in
+    b .pre .0 .3 (getD (b .args .list .now) (c .before .loop .k) 0) (member-at (b .args .list .now) (c .before .loop .k) (c .loop-test .taken))
+
+-- where it is found
+placed : (c : tie.After-place-in Inv-loop μ-loop) → c .place-in .result ≡ named (c .before .before) .0
+placed c =
+    let b = c .before .before .before .before .before .before .before .before in
+    let w = named (c .before .before) in
+    c .place-in .ensures ∙ name-place (b .args .names .now) (b .pre .0 .0) (w .0) (getD (b .args .list .now) (c .before .before .before .loop .k) 0) (w .1) (w .2)
+
+within : (c : tie.After-place-in Inv-loop μ-loop) → (c .place-in .result < mostNames) × (c .place-in .result < length (c .before .before .before .before .before .before .before .before .args .names .now)) × (idAt (c .before .before .before .before .before .before .before .before .args .names .now) (c .place-in .result) ≡ getD (c .before .before .before .before .before .before .before .before .args .list .now) (c .before .before .before .loop .k) 0)
+within c =
+    let b = c .before .before .before .before .before .before .before .before in
+    let w = named (c .before .before) in
+    let p = placed c in
+    let few = b .pre .0 .0 .few in
+    let l = w .1 in
+    (omega arith, omega arith, ap (idAt (b .args .names .now)) p ∙ w .2)
+
+-- the counts are small
+small : (c : tie.At-loop Inv-loop μ-loop) → (i : ℕ) → getD (c .loop .counts) i 0 ≤ 65536
+small c i =
+    let b = c .before .before .before .before .before in
+    rw (c .loop .inv .3) (tallied-bound (b .args .names .now) (take (c .loop .k) (b .args .list .now)) (b .args .counts .now) 65535 (b .pre .1 .3) i)
+
+-- there is room for one that is met first
+room : (c : tie.Then1 Inv-loop μ-loop) → c .before .before .before .before .before .loop .m < mostNames
+room c =
+    let l = c .before .before .before .before .before in
+    met-room (l .loop .counts) (l .loop .met) (l .loop .m) (c .before .before .place-in .result) (l .loop .inv .4) (l .loop .inv .1) (within (c .before .before) .0) (c .if1 .taken)
+
+-- the counts after the posting
+counted : (c : tie.Joined1 Inv-loop μ-loop) → set (c .before .before .before .before .before .loop .counts) (c .before .before .place-in .result) (getD (c .before .before .before .before .before .loop .counts) (c .before .before .place-in .result) 0 + 1) ≡ tallied (c .before .before .before .before .before .before .before .before .before .before .args .names .now) (take (c .before .before .before .before .before .loop .k + 1) (c .before .before .before .before .before .before .before .before .before .before .args .list .now)) (c .before .before .before .before .before .before .before .before .before .before .args .counts .now)
+counted c =
+    let l = c .before .before .before .before .before in
+    let b = l .before .before .before .before .before in
+    let w = within (c .before .before) in
+    ap (λ (t : List ℕ). set t (c .before .before .place-in .result) (getD t (c .before .before .place-in .result) 0 + 1)) (l .loop .inv .3)
+    ∙ tallied-step (b .args .names .now) (b .args .list .now) (b .args .counts .now) (b .pre .0 .0) (l .loop .k) (c .before .before .place-in .result) (c .before .before .before .before .loop-test .taken)
+    (distinct-fresh (b .args .list .now) (l .loop .k) (ascending-distinct (b .args .list .now) (b .pre .0 .2)) (c .before .before .before .before .loop-test .taken))
+    (w .1) (w .2)
+
+loop-holds : tie.Need-loop-holds Inv-loop μ-loop
+loop-holds c =
+    let b = c .before .before .before .before in
+    (omega arith, b .pre .1 .0, b .pre .1 .1, sym (tallied-nil (b .args .names .now) (b .args .list .now) (b .args .counts .now) (b .pre .1 .0)), b .pre .1 .2)
+
+mul-place-in : tie.Need-mul-place-in Inv-loop μ-loop
+mul-place-in c = omega arith
+
+shared-slice-read-place-in : tie.Need-shared-slice-read-place-in Inv-loop μ-loop
+shared-slice-read-place-in c = omega arith
+
+mul-place-in-2 : tie.Need-mul-place-in-2 Inv-loop μ-loop
+mul-place-in-2 c =
+    let w = named (c .before) in
+    let f = c .before .before .before .before .before .before .shared-slice-known .given (w .0) in
+    let e = w .2 in
+    omega arith
+
+place-in-requires : tie.Need-place-in-requires Inv-loop μ-loop
+place-in-requires c κs = c .before .before .before .before .before .before .before .pre .0 .1
+
+mul-count : tie.Need-mul-count Inv-loop μ-loop
+mul-count c = let w = within c in let l = w .0 in omega arith
+
+slice-read-count : tie.Need-slice-read-count Inv-loop μ-loop
+slice-read-count c = let w = within (c .before) in let l = w .0 in let e = c .before .before .before .before .loop .inv .1 in omega arith
+
+mul-met : tie.Need-mul-met Inv-loop μ-loop
+mul-met c = let r = room c in omega arith
+
+slice-write-met : tie.Need-slice-write-met Inv-loop μ-loop
+slice-write-met c = let r = room c in let e = c .before .before .before .before .before .loop .inv .2 in omega arith
+
+add-m : tie.Need-add-m Inv-loop μ-loop
+add-m c = let r = room c in omega arith
+
+add-counts : tie.Need-add-counts Inv-loop μ-loop
+add-counts c = let s = small (c .before .before .before .before .before) (c .before .before .place-in .result) in omega arith
+
+mul-counts : tie.Need-mul-counts Inv-loop μ-loop
+mul-counts c = let w = within (c .before .before) in let l = w .0 in omega arith
+
+slice-write-counts : tie.Need-slice-write-counts Inv-loop μ-loop
+slice-write-counts c = let w = within (c .before .before) in let l = w .0 in let e = c .before .before .before .before .before .loop .inv .1 in omega arith
+
+add-k : tie.Need-add-k Inv-loop μ-loop
+add-k c = omega arith
+
+loop-less : tie.Need-loop-less Inv-loop μ-loop
+loop-less c = omega arith
+
+loop-again : tie.Need-loop-again Inv-loop μ-loop
+loop-again c =
+    let l = c .before .before .before .before .before in
+    let i = c .before .before .place-in .result in
+    let w = within (c .before .before) in
+    let v = getD (l .loop .counts) i 0 + 1 in
+    ⊎-elim
+    (λ t. (
+      omega arith,
+      length-set (l .loop .counts) i v ∙ l .loop .inv .1,
+      ap length (t .1) ∙ length-set (l .loop .met) (l .loop .m) i ∙ l .loop .inv .2,
+      counted c,
+      subst₂ (λ (a : List ℕ) (n : ℕ). MetBy (set (l .loop .counts) i v) a n) (sym (t .1)) (sym (t .2))
+          (met-push (l .loop .counts) (l .loop .met) (l .loop .m) i v (l .loop .inv .4) (l .loop .inv .1) (l .loop .inv .2) (w .0) (t .0 .taken) (omega arith)),
+    ))
+    (λ t. (
+      omega arith,
+      length-set (l .loop .counts) i v ∙ l .loop .inv .1,
+      ap length (t .1) ∙ l .loop .inv .2,
+      counted c,
+      subst₂ (λ (a : List ℕ) (n : ℕ). MetBy (set (l .loop .counts) i v) a n) (sym (t .1)) (sym (t .2))
+          (met-keep (l .loop .counts) (l .loop .met) (l .loop .m) i v (l .loop .inv .4) (rw (l .loop .inv .1) (w .0)) (let n = t .0 .left in omega arith) (omega arith)),
+    ))
+    (c .if1 .came)
+
+same-length : tie.Need-same-length Inv-loop μ-loop
+same-length c = c .before .loop .inv .1 ∙ sym (c .before .before .before .before .before .before .pre .1 .0)
+
+same-length-2 : tie.Need-same-length-2 Inv-loop μ-loop
+same-length-2 c = c .before .loop .inv .2 ∙ sym (c .before .before .before .before .before .before .pre .1 .1)
+
+returns : tie.Need-returns Inv-loop μ-loop
+returns c =
+    let l = c .before in
+    let b = l .before .before .before .before .before in
+    (l .loop .inv .3 ∙ ap (λ (r : List ℕ). tallied (b .args .names .now) r (b .args .counts .now)) (take-all (l .loop .k) (b .args .list .now) (omega arith)), l .loop .inv .4)
+
+pub tally-spec : {M : Type 1} → statement M
+tally-spec =
+    tie.close
+    (tie.spec
+    Inv-loop
+    μ-loop
+    loop-holds
+    mul-place-in
+    shared-slice-read-place-in
+    mul-place-in-2
+    place-in-requires
+    mul-count
+    slice-read-count
+    mul-met
+    slice-write-met
+    add-m
+    add-counts
+    mul-counts
+    slice-write-counts
+    add-k
+    loop-less
+    loop-again
+    same-length
+    same-length-2
+    returns)
