@@ -3,4 +3,5 @@ pub mod Tables
 pub mod Testing
 pub mod Laws
 pub mod Work
+pub mod Places
 mod Cases

@@ -33,14 +33,10 @@ use Rattle.index.specs.Lists.{listIn}
 use Rattle.index.specs.Built.{featureSpan, keyOf}
 use Rattle.index.proofs.Laws.{good-ascending, good-named, good-names-most, good-name-within}
 use Rattle.names.specs.Features.{mostFeatures}
-use Rattle.search.specs.Method.{orderedFor, listsFor, heldBy, signatures, signaturePostings, remains, remaining, laterCount, touchesAt, sizesEnd, touchesOfSize, touchesOf}
+use Rattle.search.specs.Method.{namesOf, orderedFor, listsFor, heldBy, signatures, signaturePostings, remains, remaining, laterCount, touchesAt, sizesEnd, touchesOfSize, touchesOf}
 use Rattle.search.proofs.Laws.{count-map, count-ordered, length-lists, Query}
 
 -- ---- the names of one size
-
--- how many names have the size
-abbrev pub namesOf : List ℕ → ℕ → ℕ
-namesOf w y = countBelow (nameCount w) (λ (i : ℕ). eqb (nameSize w i) y)
 
 -- names of the size in a list
 among : List ℕ → ℕ → List ℕ → ℕ → Bool

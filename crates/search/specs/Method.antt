@@ -49,6 +49,10 @@ remains ls t (suc d) id =
     remains ls t d id
     && leb t (heldBy (take (signatures (length ls) t + suc d) ls) id + (length ls - (signatures (length ls) t + suc d)))
 
+-- how many names have the size
+abbrev pub namesOf : List ℕ → ℕ → ℕ
+namesOf w y = countBelow (nameCount w) (λ (i : ℕ). eqb (nameSize w i) y)
+
 -- how many names of the size remain after d later features
 unfoldable pub remaining : List ℕ → ℕ → List (List ℕ) → ℕ → ℕ → ℕ
 remaining w y ls t d = countBelow (nameCount w) (λ (i : ℕ). eqb (nameSize w i) y && remains ls t d (nameId w i))

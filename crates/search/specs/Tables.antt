@@ -50,3 +50,7 @@ testedAt ns l left least counts i =
 
 unfoldable pub tested : List ℕ → List ℕ → ℕ → ℕ → List ℕ → List ℕ
 tested ns l left least counts = tabulate (testedAt ns l left least counts) mostNames
+
+-- the answers with each count that is at least 1 put at its place
+unfoldable pub kept : List ℕ → List ℕ → List ℕ
+kept counts answers = tabulate (λ (i : ℕ). cond (leb 1 (getD counts i 0)) (getD counts i 0) (getD answers i 0)) mostNames

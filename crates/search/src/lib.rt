@@ -7,8 +7,9 @@ ghost use lib.Dec.{eqb, leb};
 ghost use mathlib.Core.Bool.{cond};
 ghost use Rattle.laws.specs.Lists.{Ascending, member, tabulate};
 ghost use Rattle.laws.specs.Below.{countBelow};
-ghost use Rattle.index.specs.Good.{mostNames};
-ghost use Rattle.search.specs.Tables.{Names, Named, MetBy, tallied, tested};
+ghost use Rattle.index.specs.Good.{Good, mostNames};
+ghost use Rattle.search.specs.Method.{namesOf, sizesEnd};
+ghost use Rattle.search.specs.Tables.{Names, Named, MetBy, tallied, tested, kept};
 
 // What a search answers. specs/Answers.antt sets out the number and the values of each case.
 pub enum Answer {
@@ -93,4 +94,35 @@ fn sift(
         }
     }
     m
+}
+
+// ---- the names
+
+// How many names have each size.
+fn sizes_present(words: &[u32]) -> [u32; 67]
+    requires { ⌜ Good (now words) ⌝ }
+    ensures { λ r. ⌜ r ≡ tabulate (namesOf (now (words .entry))) sizesEnd ⌝ }
+{
+    let n = index::name_count(words);
+    let mut table = [0u32; 67];
+    let mut i = 0;
+    while i < n {
+        let size = index::name_size(words, i) as usize;
+        table[size] = table[size] + 1;
+        i += 1;
+    }
+    table
+}
+
+// The counts of those met, put into the answers by place.
+fn keep(counts: &[u32], met: &[usize], m: usize, answers: &mut [u32])
+    requires { ⌜ (length (now counts) ≡ mostNames) × MetBy (now counts) (now met) m × (length (now answers) ≡ mostNames) ⌝ }
+    ensures { λ r. ⌜ now (answers .exit) ≡ kept (now (counts .entry)) (now (answers .entry)) ⌝ }
+{
+    let mut k = 0;
+    while k < m {
+        let i = met[k];
+        answers[i] = counts[i];
+        k += 1;
+    }
 }
