@@ -212,6 +212,32 @@ pub fn list_at(words: &[u32], r: usize) -> &[u32]
     &words[start..end]
 }
 
+// Where a list lies among the words.
+pub struct Place {
+    pub start: usize,
+    pub count: usize,
+}
+
+// Where the list of a size and a feature of a good index lies; no words at 0 where there is no such row.
+pub fn place_for_good(words: &[u32], size: u32, feature: u64) -> Place
+    requires { ⌜ Good (now words) ⌝ }
+    ensures { λ p. ⌜ (p .start ≡ spanIn (now (words .entry)) size feature .start) × (p .count ≡ spanIn (now (words .entry)) size feature .count) ⌝ }
+{
+    if 4294967295 < feature {
+        return Place { start: 0, count: 0 };
+    }
+    let rows = row_count(words);
+    let key = size as u64 * 4294967296 + feature;
+    let r = rows_below(words, 0, rows, key);
+    if r < rows {
+        if row_key(words, r) == key {
+            let start = 3 + name_count(words) + 4 * rows + row_place(words, r);
+            return Place { start, count: row_length(words, r) };
+        }
+    }
+    Place { start: 0, count: 0 }
+}
+
 // The list of a size and a feature of a good index, as that part of the words; the empty part where there is no such row.
 pub fn list_for_good(words: &[u32], size: u32, feature: u64) -> &[u32]
     requires { ⌜ Good (now words) ⌝ }
