@@ -4,3 +4,4 @@ mod Search
 mod Facts
 pub mod Laws
 mod Rows
+pub mod Spans

@@ -232,7 +232,10 @@ pub fn place_for_good(words: &[u32], size: u32, feature: u64) -> Place
     if r < rows {
         if row_key(words, r) == key {
             let start = 3 + name_count(words) + 4 * rows + row_place(words, r);
-            return Place { start, count: row_length(words, r) };
+            return Place {
+                start,
+                count: row_length(words, r),
+            };
         }
     }
     Place { start: 0, count: 0 }

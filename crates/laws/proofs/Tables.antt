@@ -5,9 +5,10 @@ use mathlib.Core.Logic.{_⊎_, ⊎-elim}
 use mathlib.Core.Bool.{Bool, true, false, cond, _||_, true≢false}
 use mathlib.Core.List.{List, [], _∷_, _++_}
 use Prim.Native.Nat.{ℕ, zero, suc, _+_, _≤_, _<_}
+use native.Mathlib.Numerals.{add-one}
 use native.Mathlib.Omega.{arith}
-use lib.ListN.{length, getD, set, length-set, List·getD-eq-default}
-use lib.Seq.{ext-getD, getD-set-same, getD-set-other}
+use lib.ListN.{length, getD, drop, set, length-set, length-append, length-drop}
+use lib.Seq.{ext-getD, drop-cons, set-at, append-snoc, getD-set-same, getD-set-other}
 use lib.Dec.{eqb, ltb}
 use borrow.Author.Tests.{eq-eqb, ne-eqb, eqb-true, lt-ltb, le-ltb, ltb-true}
 use Rattle.laws.specs.Lists.{member, Distinct, countOf, tabulate}
@@ -89,3 +90,28 @@ length-members n l t d m z =
     below : (x : ℕ) → (n ≤ x) ⊎ (x < n) → t x ≡ true → ltb x n ≡ true
     below x c e =
         ⊎-elim (λ (h : n ≤ x). absurd (true≢false (sym e ∙ z x h))) (λ (h : x < n). lt-ltb x n h) c
+
+-- ---- a table written over a list
+
+-- the first k values over the list l
+abbrev pub tableOver : (ℕ → ℕ) → ℕ → List ℕ → List ℕ
+tableOver f k l = tabulate f k ++ drop k l
+
+pub over-nil : (f : ℕ → ℕ) (l : List ℕ) → l ≡ tableOver f 0 l
+unfolding tabulate
+over-nil f l = refl
+
+pub over-step : (f : ℕ → ℕ) (k : ℕ) (l : List ℕ) → k < length l → set (tableOver f k l) k (f k) ≡ tableOver f (k + 1) l
+unfolding tabulate
+over-step f k l h =
+    ap (λ (r : List ℕ). set (tabulate f k ++ r) k (f k)) (drop-cons l k 0 h)
+    ∙ set-at (tabulate f k) (getD l k 0) (drop (suc k) l) (f k) k (length-tabulate f k)
+    ∙ sym (append-snoc (tabulate f k) (f k) (drop (suc k) l))
+    ∙ ap (λ (n : ℕ). tabulate f n ++ drop n l) (sym (add-one k))
+
+pub length-over : (f : ℕ → ℕ) (k : ℕ) (l : List ℕ) → k ≤ length l → length (tableOver f k l) ≡ length l
+length-over f k l h =
+    let a = length-append (tabulate f k) (drop k l) in
+    let b = length-tabulate f k in
+    let c = length-drop k l in
+    omega arith

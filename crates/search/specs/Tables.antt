@@ -3,11 +3,12 @@
 use mathlib.Core.Path.{_≡_}
 use mathlib.Core.Bool.{Bool, true, cond, _&&_}
 use mathlib.Core.List.{List}
-use Prim.Native.Nat.{ℕ, _+_, _/_, _≤_, _<_}
+use Prim.Native.Nat.{ℕ, _+_, _*_, _/_, _≤_, _<_}
 use lib.ListN.{length, getD, take}
 use lib.Dec.{leb, ltb, eqb}
 use Rattle.laws.specs.Lists.{member, Distinct, tabulate}
 use Rattle.index.specs.Good.{mostNames}
+use Rattle.index.specs.Lists.{spanIn, listIn}
 
 -- ---- the names, as their words
 
@@ -54,3 +55,13 @@ tested ns l left least counts = tabulate (testedAt ns l left least counts) mostN
 -- the answers with each count that is at least 1 put at its place
 unfoldable pub kept : List ℕ → List ℕ → List ℕ
 kept counts answers = tabulate (λ (i : ℕ). cond (leb 1 (getD counts i 0)) (getD counts i 0) (getD answers i 0)) mostNames
+
+-- ---- the lists of a size
+
+-- where the list of the j-th feature starts
+unfoldable pub startOf : List ℕ → ℕ → List ℕ → ℕ → ℕ
+startOf w y features j = spanIn w y (getD features j 0) .start
+
+-- the j-th feature's list length and place as one number, which orders by length, then by place
+unfoldable pub smallKey : List ℕ → ℕ → List ℕ → ℕ → ℕ
+smallKey w y features j = length (listIn w y (getD features j 0)) * 256 + j

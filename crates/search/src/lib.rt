@@ -1,15 +1,16 @@
 // The counted search over plain lent slices. The rule: docs/RULE.md, "The counted search"; the definitions: specs/.
 ghost use mathlib.Core.Path.{_≡_};
-ghost use mathlib.Core.List.{List};
+ghost use mathlib.Core.List.{List, _++_};
 ghost use Prim.Native.Nat.{ℕ, _+_, _*_, _≤_, _<_};
 ghost use lib.ListN.{length, getD, take, drop};
 ghost use lib.Dec.{eqb, leb};
 ghost use mathlib.Core.Bool.{cond};
 ghost use Rattle.laws.specs.Lists.{Ascending, member, tabulate};
 ghost use Rattle.laws.specs.Below.{countBelow};
+ghost use Rattle.names.specs.Features.{mostFeatures};
 ghost use Rattle.index.specs.Good.{Good, mostNames};
 ghost use Rattle.search.specs.Method.{namesOf, sizesEnd};
-ghost use Rattle.search.specs.Tables.{Names, Named, MetBy, tallied, tested, kept};
+ghost use Rattle.search.specs.Tables.{Names, Named, MetBy, tallied, tested, kept, startOf, smallKey};
 
 // What a search answers. specs/Answers.antt sets out the number and the values of each case.
 pub enum Answer {
@@ -124,5 +125,21 @@ fn keep(counts: &[u32], met: &[usize], m: usize, answers: &mut [u32])
         let i = met[k];
         answers[i] = counts[i];
         k += 1;
+    }
+}
+
+// ---- the lists of a size
+
+// Where the features' lists at a size start, and the key of each: its length × 256 + its place among the features.
+fn find_lists(words: &[u32], features: &[u64], size: u32, starts: &mut [usize], keys: &mut [u64])
+    requires { ⌜ Good (now words) × (length (now features) ≤ mostFeatures) × (length (now starts) ≡ mostFeatures) × (length (now keys) ≡ mostFeatures) ⌝ }
+    ensures { λ r. ⌜ (now (starts .exit) ≡ tabulate (startOf (now (words .entry)) size (now (features .entry))) (length (now (features .entry))) ++ drop (length (now (features .entry))) (now (starts .entry))) × (now (keys .exit) ≡ tabulate (smallKey (now (words .entry)) size (now (features .entry))) (length (now (features .entry))) ++ drop (length (now (features .entry))) (now (keys .entry))) ⌝ }
+{
+    let mut j = 0;
+    while j < features.len() {
+        let place = index::place_for_good(words, size, features[j]);
+        starts[j] = place.start;
+        keys[j] = place.count as u64 * 256 + j as u64;
+        j += 1;
     }
 }
