@@ -1,1 +1,2 @@
 mod Cases
+pub mod Read

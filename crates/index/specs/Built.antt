@@ -1,14 +1,20 @@
 -- The one index of given names: the picture of an index as its postings, triples of size, feature and id in ascending order.
 -- The posting words are the ids of that list in order; the rows are its runs of equal size and feature; the name words are the names by id.
--- Cited by whoever writes an index. That `wordsOf` is good, and the only good index of its names, is in proofs/.
+-- Cited by whoever writes an index. That `wordsOf` is good, and the only good index of its names, is in proofs/Built.antt and Unique.antt.
 -- Assumes nothing.
-use mathlib.Core.Bool.{cond}
+use mathlib.Core.Path.{_≡_}
+use mathlib.Core.Bool.{true, cond}
 use mathlib.Core.List.{List, [], _∷_, _++_, map}
-use Prim.Native.Nat.{ℕ, _+_, _*_, _/_, _%_, _^_}
+use Prim.Native.Nat.{ℕ, _+_, _*_, _/_, _%_, _^_, _≤_, _<_}
 use lib.ListN.{length}
 use lib.Dec.{eqb}
-use Rattle.laws.specs.Lists.{sumOf}
+use Rattle.laws.specs.Lists.{member, Distinct, Ascending, tabulate}
+use Rattle.laws.specs.Each.{Each}
 use Rattle.laws.specs.Sort.{sortOf}
+use Rattle.names.specs.Features.{mostFeatures}
+use Rattle.index.specs.Words.{nameCount, rowCount, nameWord, nameId, rowSize, rowFeature, listAt}
+use Rattle.index.specs.Good.{mostNames, largestId, leastSize}
+use Rattle.index.specs.Lists.{featuresIn}
 
 -- ---- a name with its features
 
@@ -52,6 +58,10 @@ pub record Row : Type 0 where
   pub key : ℕ
   pub list : List ℕ
 
+-- what stands where there is no row
+abbrev pub noRow : Row
+noRow = record { key = 0; list = [] }
+
 -- one posting in front of the rows: it joins the first row where that has its key, and is a row of its own otherwise
 unfoldable pub joinRow : ℕ → List Row → List Row
 joinRow k [] = record { key = k / idSpan; list = (k % idSpan) ∷ [] } ∷ []
@@ -64,6 +74,26 @@ joinRow k (r ∷ rs) =
 unfoldable pub runsOf : List ℕ → List Row
 runsOf [] = []
 runsOf (k ∷ ks) = joinRow k (runsOf ks)
+
+-- the postings of one row
+unfoldable pub rowTriples : Row → List ℕ
+rowTriples r = map (λ (id : ℕ). r .key * idSpan + id) (r .list)
+
+-- the postings of rows, row after row: what `runsOf` takes apart
+unfoldable pub triplesFrom : List Row → List ℕ
+triplesFrom [] = []
+triplesFrom (r ∷ rs) = rowTriples r ++ triplesFrom rs
+
+-- a row whose list holds something, ascends and holds ids
+pub record RowFit (r : Row) : Type 0 where
+  pub some : 1 ≤ length (r .list)
+  pub up : Ascending (r .list)
+  pub ids : (id : ℕ) → member id (r .list) ≡ true → id < idSpan
+
+-- rows that are runs: keys strictly ascending, each row fit
+pub record RowsFit (rows : List Row) : Type 0 where
+  pub keys : Ascending (map (λ (r : Row). r .key) rows)
+  pub each : Each RowFit rows
 
 -- ---- the words
 
@@ -89,3 +119,45 @@ rowsOf es = runsOf (sortOf (allTriples es))
 -- the index of names given by ascending id
 unfoldable pub wordsOf : List Entry → List ℕ
 wordsOf es = wordsFrom (map wordOf es) (rowsOf es)
+
+-- ---- the names that an index can hold
+
+-- one name: its id and its size are within the limits, its features are all different and fit a word
+pub record EntryFit (e : Entry) : Type 0 where
+  pub id : e .id ≤ largestId
+  pub least : leastSize ≤ length (e .features)
+  pub most : length (e .features) ≤ mostFeatures
+  pub distinct : Distinct (e .features)
+  pub below : (f : ℕ) → member f (e .features) ≡ true → f < featureSpan
+
+-- at most 256 names by ascending id, each fit; so of none
+pub record Fit (es : List Entry) : Type 0 where
+  pub few : length es ≤ mostNames
+  pub ids : Ascending (map (λ (e : Entry). e .id) es)
+  pub each : Each EntryFit es
+
+-- ---- what stands in given words
+
+-- the name words, in order
+unfoldable pub namesIn : List ℕ → List ℕ
+namesIn w = tabulate (nameWord w) (nameCount w)
+
+-- row r
+abbrev pub rowIn : List ℕ → ℕ → Row
+rowIn w r = record { key = keyOf (rowSize w r) (rowFeature w r); list = listAt w r }
+
+-- the rows, in order
+unfoldable pub rowsIn : List ℕ → List Row
+rowsIn w = tabulate (rowIn w) (rowCount w)
+
+-- name i with the features that it stands for
+abbrev pub entryIn : List ℕ → ℕ → Entry
+entryIn w i = record { id = nameId w i; features = featuresIn w (nameId w i) }
+
+-- the names with their features, in order
+unfoldable pub entriesIn : List ℕ → List Entry
+entriesIn w = tabulate (entryIn w) (nameCount w)
+
+-- the rows' features fit a word each; so wherever words are 32 bits wide
+abbrev pub Narrow : List ℕ → Type 0
+Narrow w = (r : ℕ) → r < rowCount w → rowFeature w r < featureSpan
