@@ -1,2 +1,3 @@
 mod Cases
 pub mod Read
+pub mod Facts
