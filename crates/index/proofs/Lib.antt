@@ -1,3 +1,4 @@
 mod Cases
 pub mod Read
 pub mod Facts
+pub mod Runs

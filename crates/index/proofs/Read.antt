@@ -3,15 +3,20 @@
 -- These two are all that knows the layout: a word more for a name or a row moves this file alone.
 -- Assumes nothing.
 use mathlib.Core.Path.{_≡_, refl, sym, ap, ap₂, _∙_}
-use mathlib.Core.List.{List, [], _∷_, _++_, append-assoc}
-use Prim.Native.Nat.{ℕ, zero, suc, _+_, _*_, _/_, _%_, _<_}
+use mathlib.Core.List.{List, [], _∷_, _++_, append-assoc, append-nil}
+use Prim.Native.Nat.{ℕ, zero, suc, _+_, _*_, _/_, _%_, _≤_, _<_}
 use native.Mathlib.Nat.{add-zero, zero-add}
 use native.Mathlib.Omega.{arith}
 use lib.ListN.{length, getD, take, drop, length-append, List·getD-append}
-use lib.Seq.{getD-drop, getD-take, drop-drop, drop-append-seam, take-append-seam, drop-at}
-use Rattle.laws.proofs.Tables.{tabulate-of}
+use lib.Seq.{getD-drop, getD-take, drop-drop, drop-append-seam, take-append-seam, drop-at, take-add}
+use Rattle.laws.specs.Lists.{tabulate}
+use Rattle.laws.specs.Below.{sumBelow}
+use Rattle.laws.proofs.Lists.{length-tabulate}
+use Rattle.laws.proofs.Tables.{tabulate-of, tabulate-part}
 use Rattle.index.specs.Words.{nameCount, rowCount, postingCount, namesStart, nameWord, rowsStart, rowStart, rowWidth, rowSize, rowFeature, rowPlace, rowLength, postingsStart, listAt, total}
-use Rattle.index.specs.Built.{Row, noRow, featureSpan, listsOf, rowWords, wordsFrom, namesIn, rowIn, rowsIn}
+use Rattle.index.specs.Built.{Row, noRow, featureSpan, listsOf, rowWords, wordsFrom, namesIn, rowIn, rowsIn, Narrow}
+use Rattle.index.specs.Facts.{Facts}
+use Rattle.index.proofs.Facts.{facts-length, list-within}
 
 -- ---- rows and lists
 
@@ -24,6 +29,10 @@ pub lists-append : (a b : List Row) → listsOf (a ++ b) ≡ listsOf a ++ listsO
 unfolding listsOf
 lists-append [] b = refl
 lists-append (r ∷ a) b = ap (λ (l : List ℕ). r .list ++ l) (lists-append a b) ∙ sym (append-assoc (r .list) (listsOf a) (listsOf b))
+
+lists-one : (r : Row) → listsOf (r ∷ []) ≡ r .list
+unfolding listsOf
+lists-one r = append-nil (r .list)
 
 -- the lists around row r's
 lists-around : (rows : List Row) (r : ℕ) → r < length rows
@@ -175,3 +184,103 @@ module _ (names : List ℕ) (rows : List Row) (rest : List ℕ) where
 
       same : (r : ℕ) → r < length rows → rowIn (wordsFrom names rows ++ rest) r ≡ getD rows r noRow
       same r h = λ i. record { key = key r h i; list = read-list r h i }
+
+-- ---- a good index is written by its own names and rows
+
+-- 32-bit words hold 32-bit features
+pub narrow-words : (w : List ℕ) → ((k : ℕ) → getD w k 0 < featureSpan) → Narrow w
+unfolding rowFeature
+narrow-words w h r b = h (rowStart w r + 1)
+
+row-words-append : (p : ℕ) (a b : List Row) → rowWords p (a ++ b) ≡ rowWords p a ++ rowWords (p + length (listsOf a)) b
+unfolding rowWords listsOf
+row-words-append p [] b = rw (add-zero p)
+row-words-append p (r ∷ a) b =
+    let e : p + length (r .list) + length (listsOf a) ≡ p + length (r .list ++ listsOf a) = omega (arith, length-append (r .list) (listsOf a)) in
+    ap
+    (λ (l : List ℕ). (r .key / featureSpan) ∷ (r .key % featureSpan) ∷ p ∷ length (r .list) ∷ l)
+    (row-words-append (p + length (r .list)) a b ∙ ap (λ (n : ℕ). rowWords (p + length (r .list)) a ++ rowWords n b) e)
+
+take-three : (w : List ℕ) → 3 ≤ length w → take 3 w ≡ getD w 0 0 ∷ getD w 1 0 ∷ getD w 2 0 ∷ []
+take-three w h = tabulate-part w 0 3 0 (omega arith) ∙ (unfold tabulate in refl)
+
+module _ (w : List ℕ) (f : Facts w) (narrow : Narrow w) where
+  row-words-in : (r : ℕ) → r < rowCount w → take rowWidth (drop (rowStart w r) w) ≡ rowWords (rowPlace w r) (rowIn w r ∷ [])
+  unfolding rowWords rowSize rowFeature rowPlace rowLength
+  row-words-in r h = tabulate-part w (rowStart w r) rowWidth 0 within ∙ (unfold tabulate in (λ i. (first ∙ size) i ∷ feature i ∷ rowPlace w r ∷ sym (facts-length w f r h) i ∷ []))
+    where
+      within : rowStart w r + rowWidth ≤ length w
+      within = let b = f .room in omega arith
+
+      first : getD w (rowStart w r + 0) 0 ≡ rowSize w r
+      first = ap (λ (n : ℕ). getD w n 0) (add-zero (rowStart w r))
+
+      size : rowSize w r ≡ (rowSize w r * featureSpan + rowFeature w r) / featureSpan
+      size = let b = narrow r h in omega arith
+
+      feature : rowFeature w r ≡ (rowSize w r * featureSpan + rowFeature w r) % featureSpan
+      feature = let b = narrow r h in omega arith
+
+  lists-length : (n : ℕ) → n ≤ rowCount w → length (listsOf (tabulate (rowIn w) n)) ≡ sumBelow n (rowLength w)
+  unfolding tabulate sumBelow
+  lists-length zero h = unfold listsOf in refl
+  lists-length (suc n) h =
+      ap length (lists-append (tabulate (rowIn w) n) (rowIn w n ∷ []) ∙ ap (λ (l : List ℕ). listsOf (tabulate (rowIn w) n) ++ l) (lists-one (rowIn w n)))
+      ∙ length-append (listsOf (tabulate (rowIn w) n)) (listAt w n)
+      ∙ ap₂ _+_ (lists-length n (omega arith)) (facts-length w f n h)
+
+  rows-written : (n : ℕ) → n ≤ rowCount w → take (rowWidth * n) (drop (rowsStart w) w) ≡ rowWords 0 (tabulate (rowIn w) n)
+  unfolding tabulate
+  rows-written zero h = unfold rowWords in refl
+  rows-written (suc n) h =
+      ap (λ (k : ℕ). take k (drop (rowsStart w) w)) more
+      ∙ take-add (rowWidth * n) rowWidth (drop (rowsStart w) w)
+      ∙ ap₂ _++_ (rows-written n (omega arith)) (ap (take rowWidth) (drop-drop (rowWidth * n) (rowsStart w) w) ∙ row-words-in n h ∙ ap (λ (p : ℕ). rowWords p (rowIn w n ∷ [])) place)
+      ∙ sym (row-words-append 0 (tabulate (rowIn w) n) (rowIn w n ∷ []))
+    where
+      more : rowWidth * suc n ≡ rowWidth * n + rowWidth
+      more = omega arith
+
+      place : rowPlace w n ≡ 0 + length (listsOf (tabulate (rowIn w) n))
+      place = f .place n h ∙ sym (lists-length n (omega arith)) ∙ sym (zero-add (length (listsOf (tabulate (rowIn w) n))))
+
+  lists-written : (n : ℕ) → n ≤ rowCount w → take (sumBelow n (rowLength w)) (drop (postingsStart w) w) ≡ listsOf (tabulate (rowIn w) n)
+  unfolding tabulate sumBelow
+  lists-written zero h = unfold listsOf in refl
+  lists-written (suc n) h =
+      take-add (sumBelow n (rowLength w)) (rowLength w n) (drop (postingsStart w) w)
+      ∙ ap₂ _++_ (lists-written n (omega arith)) (ap (take (rowLength w n)) (drop-drop (sumBelow n (rowLength w)) (postingsStart w) w ∙ ap (λ (k : ℕ). drop (postingsStart w + k) w) (sym (f .place n h))) ∙ list ∙ sym (lists-one (rowIn w n)))
+      ∙ sym (lists-append (tabulate (rowIn w) n) (rowIn w n ∷ []))
+    where
+      list : take (rowLength w n) (drop (postingsStart w + rowPlace w n) w) ≡ listAt w n
+      list = unfold listAt in refl
+
+  pub words-in : take (total w) w ≡ wordsFrom (namesIn w) (rowsIn w)
+  unfolding wordsFrom namesIn rowsIn nameWord
+  words-in =
+      take-add (postingsStart w) (postingCount w) w
+      ∙ ap₂ _++_
+        (take-add (rowsStart w) (rowWidth * rowCount w) w
+          ∙ ap₂ _++_
+            (take-add namesStart (nameCount w) w ∙ ap₂ _++_ (take-three w (f .head)) (tabulate-part w namesStart (nameCount w) 0 room))
+            (rows-written (rowCount w) (omega arith)))
+        (ap (λ (n : ℕ). take n (drop (postingsStart w) w)) (sym (f .sum)) ∙ lists-written (rowCount w) (omega arith))
+      ∙ regroup
+    where
+      room : namesStart + nameCount w ≤ length w
+      room = let b = f .room in omega arith
+
+      names : List ℕ
+      names = tabulate (λ (i : ℕ). getD w (namesStart + i) 0) (nameCount w)
+
+      rows : List Row
+      rows = tabulate (rowIn w) (rowCount w)
+
+      regroup : ((nameCount w ∷ rowCount w ∷ postingCount w ∷ []) ++ names ++ rowWords 0 rows) ++ listsOf rows
+          ≡ length names ∷ length rows ∷ length (listsOf rows) ∷ (names ++ (rowWords 0 rows ++ listsOf rows))
+      regroup =
+          λ i.
+          sym (length-tabulate (λ (j : ℕ). getD w (namesStart + j) 0) (nameCount w)) i
+          ∷ sym (length-tabulate (rowIn w) (rowCount w)) i
+          ∷ sym (lists-length (rowCount w) (omega arith) ∙ f .sum) i
+          ∷ append-assoc names (rowWords 0 rows) (listsOf rows) i

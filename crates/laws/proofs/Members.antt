@@ -2,14 +2,14 @@
 -- Assumes nothing.
 use mathlib.Core.Path.{_≡_, refl, sym, ap, _∙_}
 use mathlib.Core.Logic.{_⊎_, inl, inr, ⊎-elim}
-use mathlib.Core.Bool.{Bool, true, false, _||_, true≢false, false≢true}
+use mathlib.Core.Bool.{Bool, true, false, cond, _||_, true≢false, false≢true}
 use mathlib.Core.List.{List, [], _∷_, _++_, map}
-use Prim.Native.Nat.{ℕ, zero, suc, _<_}
+use Prim.Native.Nat.{ℕ, zero, suc, _+_, _<_}
 use native.Mathlib.Omega.{arith}
 use lib.ListN.{length, getD}
 use lib.Dec.{eqb}
 use borrow.Author.Tests.{eqb-true}
-use Rattle.laws.specs.Lists.{member, Distinct}
+use Rattle.laws.specs.Lists.{member, Distinct, countOf}
 use Rattle.laws.specs.Each.{Each}
 use Rattle.laws.proofs.Lists.{eqb-same, member-append}
 
@@ -100,6 +100,11 @@ member-map-place f y (x ∷ l) m =
     (λ (e : y ≡ f x). (x, member-head x l, sym e))
     (λ (n : member y (map f l) ≡ true). let h = member-map-place f y l n in (h .0, member-tail x (h .0) l (h .1), h .2))
     (member-cases (f x) y (map f l) m)
+
+pub count-map : {A B : Type 0} (t : B → Bool) (f : A → B) (l : List A) → countOf t (map f l) ≡ countOf (λ (x : A). t (f x)) l
+unfolding countOf
+count-map t f [] = refl
+count-map t f (x ∷ l) = ap (λ (n : ℕ). cond (t (f x)) 1 0 + n) (count-map t f l)
 
 -- ---- all different
 
