@@ -260,11 +260,11 @@ module _ (w : List ℕ) (f : Facts w) (narrow : Narrow w) where
   words-in =
       take-add (postingsStart w) (postingCount w) w
       ∙ ap₂ _++_
-        (take-add (rowsStart w) (rowWidth * rowCount w) w
-          ∙ ap₂ _++_
-            (take-add namesStart (nameCount w) w ∙ ap₂ _++_ (take-three w (f .head)) (tabulate-part w namesStart (nameCount w) 0 room))
-            (rows-written (rowCount w) (omega arith)))
-        (ap (λ (n : ℕ). take n (drop (postingsStart w) w)) (sym (f .sum)) ∙ lists-written (rowCount w) (omega arith))
+      (take-add (rowsStart w) (rowWidth * rowCount w) w
+      ∙ ap₂ _++_
+      (take-add namesStart (nameCount w) w ∙ ap₂ _++_ (take-three w (f .head)) (tabulate-part w namesStart (nameCount w) 0 room))
+      (rows-written (rowCount w) (omega arith)))
+      (ap (λ (n : ℕ). take n (drop (postingsStart w) w)) (sym (f .sum)) ∙ lists-written (rowCount w) (omega arith))
       ∙ regroup
     where
       room : namesStart + nameCount w ≤ length w

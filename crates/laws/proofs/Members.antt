@@ -1,6 +1,6 @@
 -- Laws of the members of a list, and of a statement of each of them. Cited by `index` and `register`.
 -- Assumes nothing.
-use mathlib.Core.Path.{_≡_, refl, sym, ap, _∙_}
+use mathlib.Core.Path.{_≡_, refl, sym, ap, ap₂, _∙_}
 use mathlib.Core.Logic.{_⊎_, inl, inr, ⊎-elim}
 use mathlib.Core.Bool.{Bool, true, false, cond, _||_, true≢false, false≢true}
 use mathlib.Core.List.{List, [], _∷_, _++_, map}
@@ -105,6 +105,13 @@ pub count-map : {A B : Type 0} (t : B → Bool) (f : A → B) (l : List A) → c
 unfolding countOf
 count-map t f [] = refl
 count-map t f (x ∷ l) = ap (λ (n : ℕ). cond (t (f x)) 1 0 + n) (count-map t f l)
+
+-- tests that agree on the members count alike
+pub count-members : (t u : ℕ → Bool) (l : List ℕ) → ((x : ℕ) → member x l ≡ true → t x ≡ u x) → countOf t l ≡ countOf u l
+unfolding countOf
+count-members t u [] h = refl
+count-members t u (x ∷ l) h =
+    ap₂ (λ (b : Bool) (n : ℕ). cond b 1 0 + n) (h x (member-head x l)) (count-members t u l (λ y m. h y (member-tail x y l m)))
 
 -- ---- all different
 
