@@ -2,3 +2,4 @@ mod Cases
 pub mod Read
 pub mod Facts
 pub mod Runs
+pub mod Rows
