@@ -3,3 +3,4 @@ pub mod Read
 pub mod Facts
 pub mod Runs
 pub mod Rows
+pub mod Entries

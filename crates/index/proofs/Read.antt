@@ -8,7 +8,7 @@ use Prim.Native.Nat.{ℕ, zero, suc, _+_, _*_, _/_, _%_, _≤_, _<_}
 use native.Mathlib.Nat.{add-zero, zero-add}
 use native.Mathlib.Omega.{arith}
 use lib.ListN.{length, getD, take, drop, length-append, List·getD-append}
-use lib.Seq.{getD-drop, getD-take, drop-drop, drop-append-seam, take-append-seam, drop-at, take-add}
+use lib.Seq.{getD-drop, getD-take, drop-drop, drop-append-seam, take-append-seam, drop-at, take-add, take-suc}
 use Rattle.laws.specs.Lists.{tabulate}
 use Rattle.laws.specs.Below.{sumBelow}
 use Rattle.laws.proofs.Lists.{length-tabulate}
@@ -170,6 +170,25 @@ module _ (names : List ℕ) (rows : List Row) (rest : List ℕ) where
         length-append (rowWords 0 rows) (listsOf rows),
         length-row-words 0 rows,
       )
+
+  -- the counts of the first rows sum to where the next list starts
+  pub read-sum : (r : ℕ) → r ≤ length rows → sumBelow r (rowLength (wordsFrom names rows ++ rest)) ≡ length (listsOf (take r rows))
+  unfolding sumBelow
+  read-sum zero h = unfold listsOf in refl
+  read-sum (suc r) h =
+      ap₂ _+_ (read-sum r (omega arith)) (read-length r h)
+      ∙ sym (length-append (listsOf (take r rows)) ((getD rows r noRow) .list))
+      ∙ sym
+      (ap length
+      (ap listsOf (take-suc rows r noRow h)
+      ∙ lists-append (take r rows) (getD rows r noRow ∷ [])
+      ∙ ap (λ (l : List ℕ). listsOf (take r rows) ++ l) (lists-one (getD rows r noRow))))
+
+  pub read-narrow : Narrow (wordsFrom names rows ++ rest)
+  read-narrow r h =
+      let e = read-row-count in
+      let q = read-feature r (omega arith) in
+      omega arith
 
   pub read-names : namesIn (wordsFrom names rows ++ rest) ≡ names
   unfolding namesIn

@@ -22,6 +22,10 @@ pub record Entry : Type 0 where
   pub id : ℕ
   pub features : List ℕ
 
+-- what stands where there is no name
+abbrev pub noEntry : Entry
+noEntry = record { id = 0; features = [] }
+
 -- its name word: id × 256 + size
 abbrev pub wordOf : Entry → ℕ
 wordOf e = e .id * 256 + length (e .features)

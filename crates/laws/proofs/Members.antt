@@ -106,6 +106,12 @@ unfolding countOf
 count-map t f [] = refl
 count-map t f (x ∷ l) = ap (λ (n : ℕ). cond (t (f x)) 1 0 + n) (count-map t f l)
 
+-- everything passes a test that passes on every element
+pub count-all : {A : Type 0} (t : A → Bool) → ((x : A) → t x ≡ true) → (l : List A) → countOf t l ≡ length l
+unfolding countOf
+count-all t e [] = refl
+count-all t e (x ∷ l) = let h = count-all t e l in let q = ap {B = ℕ} (λ (b : Bool). cond b 1 0) (e x) in omega arith
+
 -- tests that agree on the members count alike
 pub count-members : (t u : ℕ → Bool) (l : List ℕ) → ((x : ℕ) → member x l ≡ true → t x ≡ u x) → countOf t l ≡ countOf u l
 unfolding countOf
