@@ -4,3 +4,4 @@ pub mod Facts
 pub mod Runs
 pub mod Rows
 pub mod Entries
+pub mod Built
