@@ -4,32 +4,32 @@
 -- Assumes nothing.
 use mathlib.Core.Path.{_≡_, refl, sym, ap, ap₂, _∙_}
 use mathlib.Core.Logic.{_⊎_, inl, inr, ⊎-elim}
-use mathlib.Core.Bool.{Bool, true, false, cond}
-use mathlib.Core.List.{List, [], _∷_, _++_, map}
-use Prim.Native.Nat.{ℕ, zero, suc, _+_, _*_, _/_, _%_, _≤_, _<_}
+use mathlib.Core.Bool.{Bool, true}
+use mathlib.Core.List.{List, [], _∷_, _++_, map, map-append, append-assoc}
+use Prim.Native.Nat.{ℕ, _+_, _*_, _/_, _%_, _-_, _≤_, _<_}
 use native.Mathlib.Nat.{mul-le-mul-right}
 use native.Mathlib.Omega.{arith}
 use lib.ListN.{length, getD, take, length-append, length-map, List·getD-map}
 use lib.Arith.{digits-div, digits-mod}
 use lib.Seq.{take-length, take-append-seam}
 use lib.Dec.{eqb}
-use Rattle.laws.specs.Lists.{member, Distinct, Ascending, countOf, tabulate}
-use Rattle.laws.specs.Below.{sumBelow, countBelow}
+use Rattle.laws.specs.Lists.{member, Ascending, countOf}
+use Rattle.laws.specs.Below.{sumBelow}
 use Rattle.laws.specs.Sort.{sortOf}
-use Rattle.laws.proofs.Members.{bool-same, each-at}
+use Rattle.laws.proofs.Members.{bool-same, member-place, each-at, each-nil, each-cons, each-append}
 use Rattle.laws.proofs.Order.{le-or-lt}
-use Rattle.laws.proofs.Sort.{ascending-step, ascending-unique, ascending-sort, member-sort, length-sort, count-sort}
-use Rattle.laws.proofs.Tables.{count-tabulate, tabulate-of}
+use Rattle.laws.proofs.Sort.{ascending-nil, ascending-snoc, ascending-lt, ascending-step, ascending-unique, ascending-sort, member-sort, length-sort, count-sort, sort-map}
+use Rattle.laws.proofs.Tables.{count-tabulate}
 use Rattle.names.specs.Features.{mostFeatures}
 use Rattle.index.specs.Words.{nameCount, rowCount, postingCount, nameWord, nameId, nameSize, rowSize, rowFeature, rowPlace, rowLength, rowWidth, namesStart, listAt, total}
-use Rattle.index.specs.Good.{mostNames, mostPostings, largestId, leastSize, rowBefore, listsWith, Good}
+use Rattle.index.specs.Good.{mostNames, mostPostings, rowBefore, listsWith, Good}
 use Rattle.index.specs.Lists.{listIn, featuresIn}
-use Rattle.index.specs.Built.{Entry, noEntry, wordOf, featureSpan, idSpan, tripleOf, allTriples, Row, noRow, runsOf, listsOf, triplesFrom, RowFit, RowsFit, wordsFrom, rowsOf, wordsOf, EntryFit, Fit, rowIn, rowsIn, Narrow}
+use Rattle.index.specs.Built.{Entry, noEntry, wordOf, featureSpan, idSpan, tripleOf, triplesOf, allTriples, Row, noRow, runsOf, listsOf, triplesFrom, RowFit, RowsFit, rowWords, wordsFrom, rowsOf, wordsOf, EntryFit, Fit, rowIn, rowsIn, Narrow}
 use Rattle.index.specs.Facts.{Named, Facts}
 use Rattle.index.proofs.Facts.{facts-good}
 use Rattle.index.proofs.Read.{read-name-count, read-row-count, read-posting-count, read-name, read-size, read-feature, read-place, read-length, read-list, read-total, read-sum, read-narrow, read-rows}
 use Rattle.index.proofs.Runs.{length-runs, triples-runs, triples-place, triples-member, runs-fit, count-triples}
-use Rattle.index.proofs.Rows.{before-of, list-row, row-found, features-list, features-ascending}
+use Rattle.index.proofs.Rows.{before-of, list-row, name-unique, row-found, features-list, features-ascending}
 use Rattle.index.proofs.Entries.{entries-place, entries-member, length-entries, distinct-entries, count-entries}
 
 -- ---- the rows of names within the limits
@@ -295,3 +295,122 @@ module _ (es : List Entry) (fit : Fit es) (rest : List ℕ) where
           ∙ rows-counts es (λ (k : ℕ). eqb (k % idSpan) ((getD es i noEntry) .id))
           ∙ count-entries es (fit .ids) (fit .each) i l
           ∙ sym (built-size i l)
+
+  -- the index of names within the limits is good
+  pub built-good : Good (wordsOf es ++ rest)
+  built-good = facts-good (wordsOf es ++ rest) built-facts
+
+  entry-unique : (i j : ℕ) → i < length es → j < length es → (getD es i noEntry) .id ≡ (getD es j noEntry) .id → i ≡ j
+  entry-unique i j h k e =
+      let n = built-name-count es rest in
+      name-unique (wordsOf es ++ rest) built-facts i j (omega arith) (omega arith) (built-id i h ∙ e ∙ sym (built-id j k))
+
+  -- whatever is listed, under any size and feature, is a name of that size with that feature
+  pub built-listed : (size f id : ℕ) → member id (listIn (wordsOf es ++ rest) size f) ≡ true
+      → (i : ℕ)
+      × (i < length es)
+      × ((getD es i noEntry) .id ≡ id)
+      × (length ((getD es i noEntry) .features) ≡ size)
+      × (member f ((getD es i noEntry) .features) ≡ true)
+  built-listed size f id m =
+      let p = list-row (wordsOf es ++ rest) size f id m in
+      let q = row-entry (p .0) id (p .1) (p .4) in
+      (q .0, q .1, q .2, q .3 ∙ p .2, ap (λ (x : ℕ). member x ((getD es (q .0) noEntry) .features)) (sym (p .3)) ∙ q .4)
+
+  -- the list of a name's size and a feature holds it exactly if the feature is its own
+  pub built-list : (i f : ℕ) → i < length es
+      → member ((getD es i noEntry) .id) (listIn (wordsOf es ++ rest) (length ((getD es i noEntry) .features)) f)
+      ≡ member f ((getD es i noEntry) .features)
+  built-list i f h =
+      bool-same
+      (member ((getD es i noEntry) .id) (listIn (wordsOf es ++ rest) (length ((getD es i noEntry) .features)) f))
+      (member f ((getD es i noEntry) .features))
+      (λ m.
+      let p = built-listed (length ((getD es i noEntry) .features)) f ((getD es i noEntry) .id) m in
+      ap (λ (j : ℕ). member f ((getD es j noEntry) .features)) (sym (entry-unique (p .0) i (p .1) h (p .2))) ∙ p .4)
+      (λ m.
+      let p = entry-row i f h m in
+      ap (member ((getD es i noEntry) .id))
+      (ap₂ (listIn (wordsOf es ++ rest)) (sym (p .2)) (sym (p .3)) ∙ row-found (wordsOf es ++ rest) built-facts (p .0) (p .1))
+      ∙ p .4)
+
+  -- a name stands for its own features
+  pub built-features : (i f : ℕ) → i < length es
+      → member f (featuresIn (wordsOf es ++ rest) ((getD es i noEntry) .id)) ≡ member f ((getD es i noEntry) .features)
+  built-features i f h =
+      let n = built-name-count es rest in
+      ap (λ (x : ℕ). member f (featuresIn (wordsOf es ++ rest) x)) (sym (built-id i h))
+      ∙ features-list (wordsOf es ++ rest) built-facts i f (omega arith)
+      ∙ ap₂ (λ (x y : ℕ). member x (listIn (wordsOf es ++ rest) y f)) (built-id i h) (built-size i h)
+      ∙ built-list i f h
+
+  -- in ascending order
+  pub built-sorted : (i : ℕ) → i < length es
+      → featuresIn (wordsOf es ++ rest) ((getD es i noEntry) .id) ≡ sortOf ((getD es i noEntry) .features)
+  built-sorted i h =
+      ascending-unique
+      (featuresIn (wordsOf es ++ rest) ((getD es i noEntry) .id))
+      (sortOf ((getD es i noEntry) .features))
+      (features-ascending (wordsOf es ++ rest) built-facts ((getD es i noEntry) .id))
+      (ascending-sort ((getD es i noEntry) .features) (fit-at es fit i h .distinct))
+      (λ f. built-features i f h ∙ sym (member-sort f ((getD es i noEntry) .features)))
+
+-- ---- names within the limits, one by one
+
+pub fit-nil : Fit []
+fit-nil = record { few = omega arith; ids = ascending-nil; each = each-nil EntryFit }
+
+-- one name more, its id above the one before
+pub fit-snoc : (es : List Entry) (e : Entry) → Fit es → EntryFit e → length es < mostNames
+    → ((i : ℕ) → i + 1 ≡ length es → (getD es i noEntry) .id < e .id) → Fit (es ++ (e ∷ []))
+fit-snoc es e fit one few up =
+    record {
+      few = (let n = length-append es (e ∷ []) in omega arith);
+      ids = rw (map-append (λ (x : Entry). x .id) es (e ∷ [])) (ascending-snoc (map (λ (x : Entry). x .id) es) (e .id) (fit .ids) below);
+      each = each-append EntryFit es (e ∷ []) (fit .each) (each-cons EntryFit e [] one (each-nil EntryFit));
+    }
+  where
+    ids : List ℕ
+    ids = map (λ (x : Entry). x .id) es
+
+    below : (y : ℕ) → member y ids ≡ true → y < e .id
+    below y m =
+        let p = member-place y ids m in
+        let n = length-map es (λ (x : Entry). x .id) in
+        let b = p .1 in
+        let q = p .2 in
+        let z : ℕ = length es - 1 in
+        let v = List·getD-map (λ (x : Entry). x .id) es z noEntry in
+        let u = up z (omega arith) in
+        ⊎-elim
+        (λ (h : z ≤ p .0).
+        let k : p .0 ≡ z = omega arith in
+        let l = ap (λ (j : ℕ). getD ids j 0) k in
+        omega arith)
+        (λ (h : p .0 < z). let l = ascending-lt ids (fit .ids) (p .0) z h (omega arith) in omega arith)
+        (le-or-lt z (p .0))
+
+-- the postings name after name
+pub triples-append : (es fs : List Entry) → allTriples (es ++ fs) ≡ allTriples es ++ allTriples fs
+unfolding allTriples
+triples-append [] fs = refl
+triples-append (e ∷ es) fs = ap (λ (l : List ℕ). triplesOf e ++ l) (triples-append es fs) ∙ sym (append-assoc (triplesOf e) (allTriples es) (allTriples fs))
+
+-- those of one name in order are those of its features in order
+pub triples-sort : (e : Entry) → sortOf (triplesOf e) ≡ map (λ (f : ℕ). tripleOf (length (e .features)) f (e .id)) (sortOf (e .features))
+unfolding triplesOf
+triples-sort e = sort-map (λ (f : ℕ). tripleOf (length (e .features)) f (e .id)) (λ x y h. omega arith) (e .features)
+
+-- the index of no names
+pub built-nil : wordsOf [] ≡ 0 ∷ 0 ∷ 0 ∷ []
+unfolding wordsOf wordsFrom rowsOf allTriples sortOf runsOf listsOf rowWords
+built-nil = refl
+
+-- how many words it takes
+pub length-words : (es : List Entry) → length (wordsOf es) ≡ namesStart + length es + rowWidth * length (rowsOf es) + length (allTriples es)
+length-words es =
+    let t = built-total es [] in
+    let a = built-name-count es [] in
+    let b = built-row-count es [] in
+    let c = built-posting-count es [] in
+    omega arith

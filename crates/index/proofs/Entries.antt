@@ -1,24 +1,22 @@
 -- The postings of names within the limits: all different, each with its name, and as many with an id as that name has features.
 -- Assumes nothing.
 use mathlib.Core.Path.{_≡_, refl, sym, ap, ap₂, _∙_}
-use mathlib.Core.Logic.{_⊎_, inl, inr, ⊎-elim}
-use mathlib.Core.Bool.{Bool, true, false, cond, true≢false}
-use mathlib.Core.List.{List, [], _∷_, _++_, map}
-use Prim.Native.Nat.{ℕ, zero, suc, _+_, _*_, _/_, _%_, _≤_, _<_}
-use native.Mathlib.Nat.{suc-mul, add-zero, zero-add}
+use mathlib.Core.Logic.{⊎-elim}
+use mathlib.Core.Bool.{Bool, true, false}
+use mathlib.Core.List.{List, [], _∷_, map}
+use Prim.Native.Nat.{ℕ, zero, suc, _+_, _*_, _%_, _≤_, _<_}
+use native.Mathlib.Nat.{add-zero, zero-add}
 use native.Mathlib.Omega.{arith}
 use lib.ListN.{length, getD, length-append, length-map}
 use lib.Dec.{eqb}
 use borrow.Author.Tests.{eq-eqb, ne-eqb}
-use Rattle.laws.specs.Lists.{member, Distinct, AllAbove, Ascending, countOf}
+use Rattle.laws.specs.Lists.{member, Distinct, Ascending, countOf}
 use Rattle.laws.specs.Each.{Each}
 use Rattle.laws.proofs.Lists.{count-append, count-none}
-use Rattle.laws.proofs.Members.{bool-same, member-head, member-tail, member-cases, member-nil, member-left, member-right, member-append-cases, member-map, member-map-place, count-map, count-all, distinct-append, distinct-map, each-first, each-rest, each-at}
-use Rattle.laws.proofs.Order.{eq-or-ne}
-use Rattle.laws.proofs.Sort.{above-member, ascending-above, ascending-rest, ascending-lt}
+use Rattle.laws.proofs.Members.{member-head, member-tail, member-nil, member-left, member-right, member-append-cases, member-map, member-map-place, count-map, count-all, distinct-append, distinct-map, each-first, each-rest, each-at}
+use Rattle.laws.proofs.Sort.{above-member, ascending-above, ascending-rest}
 use Rattle.names.specs.Features.{mostFeatures}
-use Rattle.index.specs.Good.{largestId}
-use Rattle.index.specs.Built.{Entry, noEntry, featureSpan, idSpan, tripleOf, triplesOf, allTriples, EntryFit, Fit}
+use Rattle.index.specs.Built.{Entry, noEntry, idSpan, tripleOf, triplesOf, allTriples, EntryFit}
 
 abbrev idIn : Entry → ℕ
 idIn e = e .id

@@ -1,17 +1,17 @@
 -- A good index as statements, and back: `good-facts` and `facts-good`. Cited by whoever uses or makes a good index.
 -- Assumes nothing.
-use mathlib.Core.Path.{_≡_, refl, sym, ap, ap₂, _∙_}
-use mathlib.Core.Bool.{Bool, true, false, _&&_}
+use mathlib.Core.Path.{_≡_, sym, ap, _∙_}
+use mathlib.Core.Bool.{Bool, true, _&&_}
 use mathlib.Core.List.{List}
-use Prim.Native.Nat.{ℕ, zero, suc, _+_, _-_, _*_, _≤_, _<_}
+use Prim.Native.Nat.{ℕ, zero, suc, _+_, _-_, _≤_, _<_}
 use native.Mathlib.Nat.{add-assoc}
 use native.Mathlib.Omega.{arith}
-use lib.ListN.{length, getD, take, drop, length-drop}
+use lib.ListN.{length, getD, drop, length-drop}
 use lib.Seq.{length-take-le, getD-take, getD-drop}
 use lib.Dec.{leb, ltb, eqb}
 use borrow.Author.Tests.{leb-true, ltb-true, eqb-true, le-leb, lt-ltb, eq-eqb}
 use Rattle.laws.specs.Lists.{member, Ascending}
-use Rattle.laws.specs.Below.{allBelow, anyBelow, sumBelow}
+use Rattle.laws.specs.Below.{allBelow, sumBelow}
 use Rattle.laws.proofs.Below.{and-left, and-right, and-both, all-at, all-of, any-at, any-of, sum-below-step, sum-below-up}
 use Rattle.laws.proofs.Members.{member-at, member-place}
 use Rattle.laws.proofs.Sort.{ascending-of, ascending-step}

@@ -16,7 +16,7 @@ use Rattle.laws.proofs.Tables.{tabulate-of, tabulate-part}
 use Rattle.index.specs.Words.{nameCount, rowCount, postingCount, namesStart, nameWord, rowsStart, rowStart, rowWidth, rowSize, rowFeature, rowPlace, rowLength, postingsStart, listAt, total}
 use Rattle.index.specs.Built.{Row, noRow, featureSpan, listsOf, rowWords, wordsFrom, namesIn, rowIn, rowsIn, Narrow}
 use Rattle.index.specs.Facts.{Facts}
-use Rattle.index.proofs.Facts.{facts-length, list-within}
+use Rattle.index.proofs.Facts.{facts-length}
 
 -- ---- rows and lists
 

@@ -3,30 +3,28 @@
 -- Assumes nothing.
 use mathlib.Core.Path.{_≡_, refl, sym, ap, ap₂, _∙_}
 use mathlib.Core.Logic.{_⊎_, inl, inr, ⊎-elim}
-use mathlib.Core.Bool.{Bool, true, false, cond, _&&_, _||_, true≢false, false≢true}
-use mathlib.Core.List.{List, [], _∷_, _++_, map, append-nil}
-use Prim.Native.Nat.{ℕ, zero, suc, _+_, _-_, _*_, _≤_, _<_}
-use native.Mathlib.Nat.{eq-or-lt-of-le, add-zero}
-use native.Mathlib.Numerals.{add-one}
+use mathlib.Core.Bool.{Bool, true, false, cond, _&&_}
+use mathlib.Core.List.{List, [], _∷_, _++_, append-nil}
+use Prim.Native.Nat.{ℕ, zero, suc, _+_, _-_, _≤_, _<_}
+use native.Mathlib.Nat.{eq-or-lt-of-le}
 use native.Mathlib.Omega.{arith}
-use lib.ListN.{length, getD, length-append}
+use lib.ListN.{length, length-append}
 use lib.Dec.{ltb, eqb}
 use borrow.Author.Tests.{ltb-true, eqb-true, lt-ltb, eq-eqb}
-use Rattle.laws.specs.Lists.{member, Ascending, tabulate}
+use Rattle.laws.specs.Lists.{member, Ascending}
 use Rattle.laws.specs.Below.{sumBelow, countBelow}
 use Rattle.laws.specs.First.{firstFrom}
 use Rattle.laws.proofs.Below.{and-left, and-right, and-both}
-use Rattle.laws.proofs.First.{first-within, first-passes}
-use Rattle.laws.proofs.Lists.{length-tabulate, getD-tabulate}
+use Rattle.laws.proofs.First.{first-passes}
 use Rattle.laws.proofs.Members.{bool-same, or-cases, or-right, member-head, member-one, member-nil, member-left, member-right, member-append-cases}
 use Rattle.laws.proofs.Order.{le-or-lt}
 use Rattle.laws.proofs.Sort.{ascending-nil, ascending-snoc, ascending-tabulate}
 use Rattle.laws.proofs.Tables.{map-tabulate, each-tabulate}
-use Rattle.index.specs.Words.{nameCount, rowCount, nameId, nameSize, rowSize, rowFeature, rowLength, listAt}
-use Rattle.index.specs.Good.{largestId, rowBefore, listsWith}
+use Rattle.index.specs.Words.{nameCount, rowCount, nameId, nameSize, rowSize, rowFeature, listAt}
+use Rattle.index.specs.Good.{rowBefore, listsWith}
 use Rattle.index.specs.Lists.{rowIs, rowFor, listIn, featuresAmong, featuresIn}
-use Rattle.index.specs.Built.{Row, featureSpan, idSpan, keyOf, RowFit, RowsFit, rowIn, rowsIn, Narrow}
-use Rattle.index.specs.Facts.{Named, Facts}
+use Rattle.index.specs.Built.{Row, keyOf, RowFit, RowsFit, rowIn, rowsIn, Narrow}
+use Rattle.index.specs.Facts.{Facts}
 use Rattle.index.proofs.Facts.{facts-length}
 
 -- ---- a row before another

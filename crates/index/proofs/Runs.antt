@@ -1,18 +1,18 @@
 -- Laws of runs: `runsOf` takes an ascending list of postings apart into rows, `triplesFrom` puts them together again, and each undoes the other.
 -- Assumes nothing.
 use mathlib.Core.Path.{_≡_, refl, sym, ap, ap₂, _∙_}
-use mathlib.Core.Logic.{_⊎_, inl, inr, ⊎-elim}
-use mathlib.Core.Bool.{Bool, true, false, cond, true≢false}
-use mathlib.Core.List.{List, [], _∷_, _++_, map, append-nil}
-use Prim.Native.Nat.{ℕ, zero, suc, _+_, _*_, _/_, _%_, _≤_, _<_}
+use mathlib.Core.Logic.{⊎-elim}
+use mathlib.Core.Bool.{true, cond}
+use mathlib.Core.List.{List, [], _∷_, _++_, map}
+use Prim.Native.Nat.{ℕ, zero, suc, _+_, _*_, _/_, _%_, _<_}
 use native.Mathlib.Omega.{arith}
-use lib.ListN.{length, getD, length-append, length-map}
+use lib.ListN.{length, getD, length-map}
 use lib.Dec.{eqb}
-use borrow.Author.Tests.{eqb-true, eqb-false, eq-eqb, ne-eqb}
-use Rattle.laws.specs.Lists.{member, Distinct, AllAbove, Ascending, countOf}
+use borrow.Author.Tests.{eq-eqb, ne-eqb}
+use Rattle.laws.specs.Lists.{member, AllAbove, Ascending, countOf}
 use Rattle.laws.specs.Each.{Each}
 use Rattle.laws.proofs.Lists.{count-append, count-one}
-use Rattle.laws.proofs.Members.{bool-same, member-head, member-tail, member-cases, member-nil, member-one, member-left, member-right, member-append-cases, member-at, member-map, member-map-place, count-map, count-members, each-nil, each-cons, each-first, each-rest, each-at}
+use Rattle.laws.proofs.Members.{member-head, member-tail, member-cases, member-nil, member-one, member-left, member-right, member-append-cases, member-at, member-map, member-map-place, count-map, count-members, each-nil, each-cons, each-first, each-rest}
 use Rattle.laws.proofs.Order.{eq-or-ne}
 use Rattle.laws.proofs.Sort.{above-member, above-members, ascending-nil, ascending-one, ascending-cons, ascending-above, ascending-rest, ascending-distinct, ascending-append, ascending-map}
 use Rattle.index.specs.Built.{Row, noRow, idSpan, joinRow, runsOf, listsOf, rowTriples, triplesFrom, RowFit, RowsFit}
