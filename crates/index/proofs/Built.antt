@@ -24,10 +24,10 @@ use Rattle.names.specs.Features.{mostFeatures}
 use Rattle.index.specs.Words.{nameCount, rowCount, postingCount, nameWord, nameId, nameSize, rowSize, rowFeature, rowPlace, rowLength, rowWidth, namesStart, listAt, total}
 use Rattle.index.specs.Good.{mostNames, mostPostings, rowBefore, listsWith, Good}
 use Rattle.index.specs.Lists.{listIn, featuresIn}
-use Rattle.index.specs.Built.{Entry, noEntry, wordOf, featureSpan, idSpan, tripleOf, triplesOf, allTriples, Row, noRow, runsOf, listsOf, triplesFrom, RowFit, RowsFit, rowWords, wordsFrom, rowsOf, wordsOf, EntryFit, Fit, rowIn, rowsIn, Narrow}
+use Rattle.index.specs.Built.{Entry, noEntry, wordOf, featureSpan, idSpan, tripleOf, triplesOf, allTriples, Row, noRow, runsOf, listsOf, triplesFrom, RowFit, RowsFit, rowWords, wordsFrom, rowsOf, wordsOf, EntryFit, Fit, namesIn, rowIn, rowsIn, Narrow}
 use Rattle.index.specs.Facts.{Named, Facts}
 use Rattle.index.proofs.Facts.{facts-good}
-use Rattle.index.proofs.Read.{read-name-count, read-row-count, read-posting-count, read-name, read-size, read-feature, read-place, read-length, read-list, read-total, read-sum, read-narrow, read-rows}
+use Rattle.index.proofs.Read.{read-name-count, read-row-count, read-posting-count, read-name, read-size, read-feature, read-place, read-length, read-list, read-total, read-sum, read-narrow, read-names, read-rows}
 use Rattle.index.proofs.Runs.{length-runs, triples-runs, triples-place, triples-member, runs-fit, count-triples}
 use Rattle.index.proofs.Rows.{before-of, list-row, name-unique, row-found, features-list, features-ascending}
 use Rattle.index.proofs.Entries.{entries-place, entries-member, length-entries, distinct-entries, count-entries}
@@ -112,6 +112,10 @@ module _ (es : List Entry) (rest : List ℕ) where
   built-word i h =
       let e = length-map es wordOf in
       read-name (map wordOf es) (rowsOf es) rest i (omega arith) ∙ List·getD-map wordOf es i noEntry
+
+  pub built-names-in : namesIn (wordsOf es ++ rest) ≡ map wordOf es
+  unfolding wordsOf
+  built-names-in = read-names (map wordOf es) (rowsOf es) rest
 
   pub built-rows : rowsIn (wordsOf es ++ rest) ≡ rowsOf es
   unfolding wordsOf

@@ -5,3 +5,4 @@ pub mod Runs
 pub mod Rows
 pub mod Entries
 pub mod Built
+pub mod Unique
