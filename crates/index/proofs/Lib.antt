@@ -6,3 +6,4 @@ pub mod Rows
 pub mod Entries
 pub mod Built
 pub mod Unique
+pub mod Pass

@@ -7,14 +7,14 @@ use mathlib.Core.List.{List, [], _∷_, _++_, append-assoc, append-nil}
 use Prim.Native.Nat.{ℕ, zero, suc, _+_, _*_, _/_, _%_, _≤_, _<_}
 use native.Mathlib.Nat.{add-zero, zero-add}
 use native.Mathlib.Omega.{arith}
-use lib.ListN.{length, getD, take, drop, length-append, List·getD-append}
-use lib.Seq.{getD-drop, getD-take, drop-drop, drop-append-seam, take-append-seam, drop-at, take-add, take-suc}
+use lib.ListN.{length, getD, take, drop, set, length-append, List·getD-append}
+use lib.Seq.{getD-drop, getD-take, drop-drop, drop-append-seam, take-append-seam, drop-at, take-add, take-suc, set-at}
 use Rattle.laws.specs.Lists.{tabulate}
 use Rattle.laws.specs.Below.{sumBelow}
 use Rattle.laws.proofs.Lists.{length-tabulate}
 use Rattle.laws.proofs.Tables.{tabulate-of, tabulate-part}
 use Rattle.index.specs.Words.{nameCount, rowCount, postingCount, namesStart, nameWord, rowsStart, rowStart, rowWidth, rowSize, rowFeature, rowPlace, rowLength, postingsStart, listAt, total}
-use Rattle.index.specs.Built.{Row, noRow, featureSpan, listsOf, rowWords, wordsFrom, namesIn, rowIn, rowsIn, Narrow}
+use Rattle.index.specs.Built.{Row, noRow, oneRow, longerRow, featureSpan, idSpan, listsOf, rowWords, wordsFrom, namesIn, rowIn, rowsIn, Narrow}
 use Rattle.index.specs.Facts.{Facts}
 use Rattle.index.proofs.Facts.{facts-length}
 
@@ -60,6 +60,44 @@ row-words-at p (x ∷ rows) (suc r) more h =
     let q : p + length (x .list) + length (listsOf (take r rows)) ≡ p + length (x .list ++ listsOf (take r rows)) =
     omega (arith, length-append (x .list) (listsOf (take r rows))) in
     rw e (row-words-at (p + length (x .list)) rows r more (omega arith) ∙ (rw q))
+
+-- ---- one row more at the end, one id more in the last row
+
+pub row-words-append : (p : ℕ) (a b : List Row) → rowWords p (a ++ b) ≡ rowWords p a ++ rowWords (p + length (listsOf a)) b
+unfolding rowWords listsOf
+row-words-append p [] b = rw (add-zero p)
+row-words-append p (r ∷ a) b =
+    let e : p + length (r .list) + length (listsOf a) ≡ p + length (r .list ++ listsOf a) = omega (arith, length-append (r .list) (listsOf a)) in
+    ap
+    (λ (l : List ℕ). (r .key / featureSpan) ∷ (r .key % featureSpan) ∷ p ∷ length (r .list) ∷ l)
+    (row-words-append (p + length (r .list)) a b ∙ ap (λ (n : ℕ). rowWords (p + length (r .list)) a ++ rowWords n b) e)
+
+-- a new row's four words
+pub words-new : (rs : List Row) (k : ℕ)
+    → rowWords 0 (rs ++ (oneRow k ∷ []))
+    ≡ rowWords 0 rs ++ ((k / idSpan / featureSpan) ∷ (k / idSpan % featureSpan) ∷ length (listsOf rs) ∷ 1 ∷ [])
+unfolding rowWords
+words-new rs k =
+    row-words-append 0 rs (oneRow k ∷ [])
+    ∙ ap (λ (n : ℕ). rowWords 0 rs ++ ((k / idSpan / featureSpan) ∷ (k / idSpan % featureSpan) ∷ n ∷ 1 ∷ [])) (zero-add (length (listsOf rs)))
+
+-- a longer last row has a greater count, and no other word changes
+pub words-more : (rs : List Row) (r : Row) (id : ℕ)
+    → rowWords 0 (rs ++ (longerRow r id ∷ [])) ≡ set (rowWords 0 (rs ++ (r ∷ []))) (rowWidth * length rs + 3) (length (r .list) + 1)
+unfolding rowWords
+words-more rs r id =
+    row-words-append 0 rs (longerRow r id ∷ [])
+    ∙ sym (append-assoc (rowWords 0 rs) three (length (r .list ++ (id ∷ [])) ∷ []))
+    ∙ ap (λ (n : ℕ). rowWords 0 rs ++ three ++ (n ∷ [])) (length-append (r .list) (id ∷ []))
+    ∙ sym (set-at (rowWords 0 rs ++ three) (length (r .list)) [] (length (r .list) + 1) (rowWidth * length rs + 3) place)
+    ∙ ap (λ (l : List ℕ). set l (rowWidth * length rs + 3) (length (r .list) + 1))
+    (append-assoc (rowWords 0 rs) three (length (r .list) ∷ []) ∙ sym (row-words-append 0 rs (r ∷ [])))
+  where
+    three : List ℕ
+    three = (r .key / featureSpan) ∷ (r .key % featureSpan) ∷ (0 + length (listsOf rs)) ∷ []
+
+    place : length (rowWords 0 rs ++ three) ≡ rowWidth * length rs + 3
+    place = length-append (rowWords 0 rs) three ∙ ap (λ (n : ℕ). n + 3) (length-row-words 0 rs)
 
 -- ---- what was written, read back
 
@@ -210,15 +248,6 @@ module _ (names : List ℕ) (rows : List Row) (rest : List ℕ) where
 pub narrow-words : (w : List ℕ) → ((k : ℕ) → getD w k 0 < featureSpan) → Narrow w
 unfolding rowFeature
 narrow-words w h r b = h (rowStart w r + 1)
-
-row-words-append : (p : ℕ) (a b : List Row) → rowWords p (a ++ b) ≡ rowWords p a ++ rowWords (p + length (listsOf a)) b
-unfolding rowWords listsOf
-row-words-append p [] b = rw (add-zero p)
-row-words-append p (r ∷ a) b =
-    let e : p + length (r .list) + length (listsOf a) ≡ p + length (r .list ++ listsOf a) = omega (arith, length-append (r .list) (listsOf a)) in
-    ap
-    (λ (l : List ℕ). (r .key / featureSpan) ∷ (r .key % featureSpan) ∷ p ∷ length (r .list) ∷ l)
-    (row-words-append (p + length (r .list)) a b ∙ ap (λ (n : ℕ). rowWords (p + length (r .list)) a ++ rowWords n b) e)
 
 take-three : (w : List ℕ) → 3 ≤ length w → take 3 w ≡ getD w 0 0 ∷ getD w 1 0 ∷ getD w 2 0 ∷ []
 take-three w h = tabulate-part w 0 3 0 (omega arith) ∙ (unfold tabulate in refl)

@@ -15,23 +15,23 @@ use Rattle.laws.proofs.Lists.{count-append, count-one}
 use Rattle.laws.proofs.Members.{member-head, member-tail, member-cases, member-nil, member-one, member-left, member-right, member-append-cases, member-at, member-map, member-map-place, count-map, count-members, each-nil, each-cons, each-first, each-rest}
 use Rattle.laws.proofs.Order.{eq-or-ne}
 use Rattle.laws.proofs.Sort.{above-member, above-members, ascending-nil, ascending-one, ascending-cons, ascending-above, ascending-rest, ascending-distinct, ascending-append, ascending-map}
-use Rattle.index.specs.Built.{Row, noRow, idSpan, joinRow, runsOf, listsOf, rowTriples, triplesFrom, RowFit, RowsFit}
+use Rattle.index.specs.Built.{Row, noRow, idSpan, oneRow, joinRow, runsOf, listsOf, rowTriples, triplesFrom, RowFit, RowsFit}
 
 -- ---- one posting in front
 
 abbrev keyIn : Row → ℕ
 keyIn r = r .key
 
-join-nil : (k : ℕ) → joinRow k [] ≡ record { key = k / idSpan; list = (k % idSpan) ∷ [] } ∷ []
+pub join-nil : (k : ℕ) → joinRow k [] ≡ oneRow k ∷ []
 unfolding joinRow
 join-nil k = refl
 
-join-same : (k : ℕ) (r : Row) (rs : List Row) → k / idSpan ≡ r .key → joinRow k (r ∷ rs) ≡ record { key = r .key; list = (k % idSpan) ∷ r .list } ∷ rs
+pub join-same : (k : ℕ) (r : Row) (rs : List Row) → k / idSpan ≡ r .key → joinRow k (r ∷ rs) ≡ record { key = r .key; list = (k % idSpan) ∷ r .list } ∷ rs
 unfolding joinRow
 join-same k r rs e = rw (eq-eqb (k / idSpan) (r .key) e)
 
-join-other : (k : ℕ) (r : Row) (rs : List Row) → (k / idSpan ≡ r .key → ⊥)
-    → joinRow k (r ∷ rs) ≡ record { key = k / idSpan; list = (k % idSpan) ∷ [] } ∷ r ∷ rs
+pub join-other : (k : ℕ) (r : Row) (rs : List Row) → (k / idSpan ≡ r .key → ⊥)
+    → joinRow k (r ∷ rs) ≡ oneRow k ∷ r ∷ rs
 unfolding joinRow
 join-other k r rs n = rw (ne-eqb (k / idSpan) (r .key) n)
 
@@ -109,7 +109,7 @@ triples-member (x ∷ rows) (suc r) id h m =
 
 -- ---- ascending postings have fit runs
 
-one-fit : (k : ℕ) → RowFit (record { key = k / idSpan; list = (k % idSpan) ∷ [] })
+one-fit : (k : ℕ) → RowFit (oneRow k)
 one-fit k =
     record {
       some = omega arith;
@@ -131,7 +131,7 @@ join-fit k (r ∷ rs) f a =
     rw (join-other k r rs n)
     (record {
       keys = ascending-cons (k / idSpan) (map keyIn (r ∷ rs)) (above-members (k / idSpan) (map keyIn (r ∷ rs)) (lower n)) (f .keys);
-      each = each-cons RowFit (record { key = k / idSpan; list = (k % idSpan) ∷ [] }) (r ∷ rs) (one-fit k) (f .each);
+      each = each-cons RowFit (oneRow k) (r ∷ rs) (one-fit k) (f .each);
     }))
     (eq-or-ne (k / idSpan) (r .key))
   where

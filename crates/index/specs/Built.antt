@@ -66,13 +66,18 @@ pub record Row : Type 0 where
 abbrev pub noRow : Row
 noRow = record { key = 0; list = [] }
 
+-- the row of one posting
+abbrev pub oneRow : ℕ → Row
+oneRow k = record { key = k / idSpan; list = (k % idSpan) ∷ [] }
+
+-- a row with one id more at the end of its list
+abbrev pub longerRow : Row → ℕ → Row
+longerRow r id = record { key = r .key; list = r .list ++ (id ∷ []) }
+
 -- one posting in front of the rows: it joins the first row where that has its key, and is a row of its own otherwise
 unfoldable pub joinRow : ℕ → List Row → List Row
-joinRow k [] = record { key = k / idSpan; list = (k % idSpan) ∷ [] } ∷ []
-joinRow k (r ∷ rs) =
-    cond (eqb (k / idSpan) (r .key))
-    (record { key = r .key; list = (k % idSpan) ∷ r .list } ∷ rs)
-    (record { key = k / idSpan; list = (k % idSpan) ∷ [] } ∷ r ∷ rs)
+joinRow k [] = oneRow k ∷ []
+joinRow k (r ∷ rs) = cond (eqb (k / idSpan) (r .key)) (record { key = r .key; list = (k % idSpan) ∷ r .list } ∷ rs) (oneRow k ∷ r ∷ rs)
 
 -- the runs of equal size and feature of an ascending list of postings
 unfoldable pub runsOf : List ℕ → List Row
