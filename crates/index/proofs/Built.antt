@@ -13,18 +13,18 @@ use lib.ListN.{length, getD, take, length-append, length-map, List·getD-map}
 use lib.Arith.{digits-div, digits-mod}
 use lib.Seq.{take-length, take-append-seam}
 use lib.Dec.{eqb}
-use Rattle.laws.specs.Lists.{member, Ascending, countOf}
+use Rattle.laws.specs.Lists.{member, Ascending, countOf, tabulate, sumOf}
 use Rattle.laws.specs.Below.{sumBelow}
 use Rattle.laws.specs.Sort.{sortOf}
 use Rattle.laws.proofs.Members.{bool-same, member-place, each-at, each-nil, each-cons, each-append}
 use Rattle.laws.proofs.Order.{le-or-lt}
 use Rattle.laws.proofs.Sort.{ascending-nil, ascending-snoc, ascending-lt, ascending-step, ascending-unique, ascending-sort, member-sort, length-sort, count-sort, sort-map}
-use Rattle.laws.proofs.Tables.{count-tabulate}
+use Rattle.laws.proofs.Tables.{count-tabulate, tabulate-of}
 use Rattle.names.specs.Features.{mostFeatures}
 use Rattle.index.specs.Words.{nameCount, rowCount, postingCount, nameWord, nameId, nameSize, rowSize, rowFeature, rowPlace, rowLength, rowWidth, namesStart, listAt, total}
 use Rattle.index.specs.Good.{mostNames, mostPostings, rowBefore, listsWith, Good}
 use Rattle.index.specs.Lists.{listIn, featuresIn}
-use Rattle.index.specs.Built.{Entry, noEntry, wordOf, featureSpan, idSpan, tripleOf, triplesOf, allTriples, Row, noRow, runsOf, listsOf, triplesFrom, RowFit, RowsFit, rowWords, wordsFrom, rowsOf, wordsOf, EntryFit, Fit, namesIn, rowIn, rowsIn, Narrow}
+use Rattle.index.specs.Built.{Entry, noEntry, wordOf, featureSpan, idSpan, tripleOf, triplesOf, allTriples, Row, noRow, runsOf, listsOf, triplesFrom, RowFit, RowsFit, rowWords, wordsFrom, rowsOf, wordsOf, EntryFit, Fit, namesIn, rowIn, rowsIn, entryIn, entriesIn, Narrow}
 use Rattle.index.specs.Facts.{Named, Facts}
 use Rattle.index.proofs.Facts.{facts-good}
 use Rattle.index.proofs.Read.{read-name-count, read-row-count, read-posting-count, read-name, read-size, read-feature, read-place, read-length, read-list, read-total, read-sum, read-narrow, read-names, read-rows}
@@ -359,6 +359,21 @@ module _ (es : List Entry) (fit : Fit es) (rest : List ℕ) where
       (ascending-sort ((getD es i noEntry) .features) (fit-at es fit i h .distinct))
       (λ f. built-features i f h ∙ sym (member-sort f ((getD es i noEntry) .features)))
 
+  -- read back, the names are the given ones, each with its features in ascending order
+  pub built-entries : entriesIn (wordsOf es ++ rest) ≡ map (λ (e : Entry). record { id = e .id; features = sortOf (e .features) }) es
+  unfolding entriesIn
+  built-entries =
+      ap (tabulate (entryIn (wordsOf es ++ rest))) (built-name-count es rest)
+      ∙ sym (tabulate-of (entryIn (wordsOf es ++ rest)) (length es) (put noEntry) (map put es) (length-map es put) same)
+    where
+      put : Entry → Entry
+      put e = record { id = e .id; features = sortOf (e .features) }
+
+      same : (i : ℕ) → i < length es → getD (map put es) i (put noEntry) ≡ entryIn (wordsOf es ++ rest) i
+      same i h =
+          List·getD-map put es i noEntry
+          ∙ sym (λ j. record { id = built-id i h j; features = (ap (featuresIn (wordsOf es ++ rest)) (built-id i h) ∙ built-sorted i h) j })
+
 -- ---- names within the limits, one by one
 
 pub fit-nil : Fit []
@@ -399,6 +414,14 @@ pub triples-append : (es fs : List Entry) → allTriples (es ++ fs) ≡ allTripl
 unfolding allTriples
 triples-append [] fs = refl
 triples-append (e ∷ es) fs = ap (λ (l : List ℕ). triplesOf e ++ l) (triples-append es fs) ∙ sym (append-assoc (triplesOf e) (allTriples es) (allTriples fs))
+
+-- as many as the sizes of the names add up to
+pub length-triples : (es : List Entry) → length (allTriples es) ≡ sumOf (map (λ (e : Entry). length (e .features)) es)
+unfolding allTriples triplesOf sumOf
+length-triples [] = refl
+length-triples (e ∷ es) =
+    length-append (triplesOf e) (allTriples es)
+    ∙ ap₂ _+_ (length-map (e .features) (λ (f : ℕ). tripleOf (length (e .features)) f (e .id))) (length-triples es)
 
 -- those of one name in order are those of its features in order
 pub triples-sort : (e : Entry) → sortOf (triplesOf e) ≡ map (λ (f : ℕ). tripleOf (length (e .features)) f (e .id)) (sortOf (e .features))

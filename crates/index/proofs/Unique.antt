@@ -174,10 +174,14 @@ module _ (w : List ℕ) (g : Good w) (narrow : Narrow w) where
   unfolding rowsOf
   good-rows = sym (runs-unique (rowsIn w) (rows-fit w facts narrow)) ∙ ap runsOf good-triples
 
+  -- up to its total, it is written by its own name words and rows
+  pub good-written : take (total w) w ≡ wordsFrom (namesIn w) (rowsIn w)
+  good-written = words-in w facts narrow
+
   -- up to its total, it is the index of the names and features in it
   pub good-built : take (total w) w ≡ wordsOf (entriesIn w)
   unfolding wordsOf
-  good-built = words-in w facts narrow ∙ ap₂ wordsFrom good-names good-rows
+  good-built = good-written ∙ ap₂ wordsFrom good-names good-rows
 
 -- ---- so it is fixed by its names and features
 
