@@ -24,12 +24,13 @@ use Rattle.names.specs.Features.{mostFeatures}
 use Rattle.index.specs.Words.{nameCount, rowCount, postingCount, nameWord, nameId, nameSize, rowSize, rowFeature, rowPlace, rowLength, rowWidth, namesStart, listAt, total}
 use Rattle.index.specs.Good.{mostNames, mostPostings, rowBefore, listsWith, Good}
 use Rattle.index.specs.Lists.{listIn, featuresIn}
-use Rattle.index.specs.Built.{Entry, noEntry, wordOf, featureSpan, idSpan, tripleOf, triplesOf, allTriples, Row, noRow, runsOf, listsOf, triplesFrom, RowFit, RowsFit, rowWords, wordsFrom, rowsOf, wordsOf, EntryFit, Fit, namesIn, rowIn, rowsIn, entryIn, entriesIn, Narrow}
-use Rattle.index.specs.Facts.{Named, Facts}
-use Rattle.index.proofs.Facts.{facts-good}
+use Rattle.index.specs.Built.{Entry, noEntry, wordOf, featureSpan, idSpan, tripleOf, triplesOf, allTriples, Row, noRow, runsOf, listsOf, triplesFrom, RowFit, RowsFit, rowWords, wordsFrom, rowsOf, wordsOf, EntryFit, Fit}
+use Rattle.index.specs.Contents.{namesIn, rowIn, rowsIn, entryIn, entriesIn, Narrow}
+use Rattle.index.specs.Plain.{Named, Plain}
+use Rattle.index.proofs.Plain.{plain-good}
 use Rattle.index.proofs.Read.{read-name-count, read-row-count, read-posting-count, read-name, read-size, read-feature, read-place, read-length, read-list, read-total, read-sum, read-narrow, read-names, read-rows}
 use Rattle.index.proofs.Runs.{length-runs, triples-runs, triples-place, triples-member, runs-fit, count-triples}
-use Rattle.index.proofs.Rows.{before-of, list-row, name-unique, row-found, features-list, features-ascending}
+use Rattle.index.proofs.Holders.{before-of, list-row, name-unique, row-found, features-list, features-ascending}
 use Rattle.index.proofs.Entries.{entries-place, entries-member, length-entries, distinct-entries, count-entries}
 
 -- ---- the rows of names within the limits
@@ -235,8 +236,8 @@ module _ (es : List Entry) (fit : Fit es) (rest : List ℕ) where
         ap₂ (λ (x : ℕ) (v : List ℕ). member x v) (sym e) (built-row-list es rest (p .0) b) ∙ p .3,
       )
 
-  built-facts : Facts (wordsOf es ++ rest)
-  built-facts =
+  built-plain : Plain (wordsOf es ++ rest)
+  built-plain =
       record {
         head = (let a = built-total es rest in let b = length-append (wordsOf es) rest in omega arith);
         few = (let a = built-name-count es rest in let b = fit .few in omega arith);
@@ -302,12 +303,12 @@ module _ (es : List Entry) (fit : Fit es) (rest : List ℕ) where
 
   -- the index of names within the limits is good
   pub built-good : Good (wordsOf es ++ rest)
-  built-good = facts-good (wordsOf es ++ rest) built-facts
+  built-good = plain-good (wordsOf es ++ rest) built-plain
 
   entry-unique : (i j : ℕ) → i < length es → j < length es → (getD es i noEntry) .id ≡ (getD es j noEntry) .id → i ≡ j
   entry-unique i j h k e =
       let n = built-name-count es rest in
-      name-unique (wordsOf es ++ rest) built-facts i j (omega arith) (omega arith) (built-id i h ∙ e ∙ sym (built-id j k))
+      name-unique (wordsOf es ++ rest) built-plain i j (omega arith) (omega arith) (built-id i h ∙ e ∙ sym (built-id j k))
 
   -- whatever is listed, under any size and feature, is a name of that size with that feature
   pub built-listed : (size f id : ℕ) → member id (listIn (wordsOf es ++ rest) size f) ≡ true
@@ -335,7 +336,7 @@ module _ (es : List Entry) (fit : Fit es) (rest : List ℕ) where
       (λ m.
       let p = entry-row i f h m in
       ap (member ((getD es i noEntry) .id))
-      (ap₂ (listIn (wordsOf es ++ rest)) (sym (p .2)) (sym (p .3)) ∙ row-found (wordsOf es ++ rest) built-facts (p .0) (p .1))
+      (ap₂ (listIn (wordsOf es ++ rest)) (sym (p .2)) (sym (p .3)) ∙ row-found (wordsOf es ++ rest) built-plain (p .0) (p .1))
       ∙ p .4)
 
   -- a name stands for its own features
@@ -344,7 +345,7 @@ module _ (es : List Entry) (fit : Fit es) (rest : List ℕ) where
   built-features i f h =
       let n = built-name-count es rest in
       ap (λ (x : ℕ). member f (featuresIn (wordsOf es ++ rest) x)) (sym (built-id i h))
-      ∙ features-list (wordsOf es ++ rest) built-facts i f (omega arith)
+      ∙ features-list (wordsOf es ++ rest) built-plain i f (omega arith)
       ∙ ap₂ (λ (x y : ℕ). member x (listIn (wordsOf es ++ rest) y f)) (built-id i h) (built-size i h)
       ∙ built-list i f h
 
@@ -355,7 +356,7 @@ module _ (es : List Entry) (fit : Fit es) (rest : List ℕ) where
       ascending-unique
       (featuresIn (wordsOf es ++ rest) ((getD es i noEntry) .id))
       (sortOf ((getD es i noEntry) .features))
-      (features-ascending (wordsOf es ++ rest) built-facts ((getD es i noEntry) .id))
+      (features-ascending (wordsOf es ++ rest) built-plain ((getD es i noEntry) .id))
       (ascending-sort ((getD es i noEntry) .features) (fit-at es fit i h .distinct))
       (λ f. built-features i f h ∙ sym (member-sort f ((getD es i noEntry) .features)))
 

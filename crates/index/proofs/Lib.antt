@@ -1,8 +1,8 @@
 mod Cases
 pub mod Read
-pub mod Facts
+pub mod Plain
 pub mod Runs
-pub mod Rows
+pub mod Holders
 pub mod Entries
 pub mod Built
 pub mod Unique

@@ -14,9 +14,10 @@ use Rattle.laws.specs.Below.{sumBelow}
 use Rattle.laws.proofs.Lists.{length-tabulate}
 use Rattle.laws.proofs.Tables.{tabulate-of, tabulate-part}
 use Rattle.index.specs.Words.{nameCount, rowCount, postingCount, namesStart, nameWord, rowsStart, rowStart, rowWidth, rowSize, rowFeature, rowPlace, rowLength, postingsStart, listAt, total}
-use Rattle.index.specs.Built.{Row, noRow, oneRow, longerRow, featureSpan, idSpan, listsOf, rowWords, wordsFrom, namesIn, rowIn, rowsIn, Narrow}
-use Rattle.index.specs.Facts.{Facts}
-use Rattle.index.proofs.Facts.{facts-length}
+use Rattle.index.specs.Built.{Row, noRow, oneRow, longerRow, featureSpan, idSpan, listsOf, rowWords, wordsFrom}
+use Rattle.index.specs.Contents.{namesIn, rowIn, rowsIn, Narrow}
+use Rattle.index.specs.Plain.{Plain}
+use Rattle.index.proofs.Plain.{plain-length}
 
 -- ---- rows and lists
 
@@ -252,10 +253,12 @@ narrow-words w h r b = h (rowStart w r + 1)
 take-three : (w : List ℕ) → 3 ≤ length w → take 3 w ≡ getD w 0 0 ∷ getD w 1 0 ∷ getD w 2 0 ∷ []
 take-three w h = tabulate-part w 0 3 0 (omega arith) ∙ (unfold tabulate in refl)
 
-module _ (w : List ℕ) (f : Facts w) (narrow : Narrow w) where
+module _ (w : List ℕ) (f : Plain w) (narrow : Narrow w) where
   row-words-in : (r : ℕ) → r < rowCount w → take rowWidth (drop (rowStart w r) w) ≡ rowWords (rowPlace w r) (rowIn w r ∷ [])
   unfolding rowWords rowSize rowFeature rowPlace rowLength
-  row-words-in r h = tabulate-part w (rowStart w r) rowWidth 0 within ∙ (unfold tabulate in (λ i. (first ∙ size) i ∷ feature i ∷ rowPlace w r ∷ sym (facts-length w f r h) i ∷ []))
+  row-words-in r h =
+      tabulate-part w (rowStart w r) rowWidth 0 within
+      ∙ (unfold tabulate in (λ i. (first ∙ size) i ∷ feature i ∷ rowPlace w r ∷ sym (plain-length w f r h) i ∷ []))
     where
       within : rowStart w r + rowWidth ≤ length w
       within = let b = f .room in omega arith
@@ -275,7 +278,7 @@ module _ (w : List ℕ) (f : Facts w) (narrow : Narrow w) where
   lists-length (suc n) h =
       ap length (lists-append (tabulate (rowIn w) n) (rowIn w n ∷ []) ∙ ap (λ (l : List ℕ). listsOf (tabulate (rowIn w) n) ++ l) (lists-one (rowIn w n)))
       ∙ length-append (listsOf (tabulate (rowIn w) n)) (listAt w n)
-      ∙ ap₂ _+_ (lists-length n (omega arith)) (facts-length w f n h)
+      ∙ ap₂ _+_ (lists-length n (omega arith)) (plain-length w f n h)
 
   rows-written : (n : ℕ) → n ≤ rowCount w → take (rowWidth * n) (drop (rowsStart w) w) ≡ rowWords 0 (tabulate (rowIn w) n)
   unfolding tabulate
@@ -283,7 +286,7 @@ module _ (w : List ℕ) (f : Facts w) (narrow : Narrow w) where
   rows-written (suc n) h =
       ap (λ (k : ℕ). take k (drop (rowsStart w) w)) more
       ∙ take-add (rowWidth * n) rowWidth (drop (rowsStart w) w)
-      ∙ ap₂ _++_ (rows-written n (omega arith)) (ap (take rowWidth) (drop-drop (rowWidth * n) (rowsStart w) w) ∙ row-words-in n h ∙ ap (λ (p : ℕ). rowWords p (rowIn w n ∷ [])) place)
+      ∙ ap₂ _++_ (rows-written n (omega arith)) last
       ∙ sym (row-words-append 0 (tabulate (rowIn w) n) (rowIn w n ∷ []))
     where
       more : rowWidth * suc n ≡ rowWidth * n + rowWidth
@@ -292,14 +295,25 @@ module _ (w : List ℕ) (f : Facts w) (narrow : Narrow w) where
       place : rowPlace w n ≡ 0 + length (listsOf (tabulate (rowIn w) n))
       place = f .place n h ∙ sym (lists-length n (omega arith)) ∙ sym (zero-add (length (listsOf (tabulate (rowIn w) n))))
 
+      last : take rowWidth (drop (rowWidth * n) (drop (rowsStart w) w)) ≡ rowWords (0 + length (listsOf (tabulate (rowIn w) n))) (rowIn w n ∷ [])
+      last =
+          ap (take rowWidth) (drop-drop (rowWidth * n) (rowsStart w) w)
+          ∙ row-words-in n h
+          ∙ ap (λ (p : ℕ). rowWords p (rowIn w n ∷ [])) place
+
   lists-written : (n : ℕ) → n ≤ rowCount w → take (sumBelow n (rowLength w)) (drop (postingsStart w) w) ≡ listsOf (tabulate (rowIn w) n)
   unfolding tabulate sumBelow
   lists-written zero h = unfold listsOf in refl
   lists-written (suc n) h =
       take-add (sumBelow n (rowLength w)) (rowLength w n) (drop (postingsStart w) w)
-      ∙ ap₂ _++_ (lists-written n (omega arith)) (ap (take (rowLength w n)) (drop-drop (sumBelow n (rowLength w)) (postingsStart w) w ∙ ap (λ (k : ℕ). drop (postingsStart w + k) w) (sym (f .place n h))) ∙ list ∙ sym (lists-one (rowIn w n)))
+      ∙ ap₂ _++_ (lists-written n (omega arith)) (ap (take (rowLength w n)) start ∙ list ∙ sym (lists-one (rowIn w n)))
       ∙ sym (lists-append (tabulate (rowIn w) n) (rowIn w n ∷ []))
     where
+      start : drop (sumBelow n (rowLength w)) (drop (postingsStart w) w) ≡ drop (postingsStart w + rowPlace w n) w
+      start =
+          drop-drop (sumBelow n (rowLength w)) (postingsStart w) w
+          ∙ ap (λ (k : ℕ). drop (postingsStart w + k) w) (sym (f .place n h))
+
       list : take (rowLength w n) (drop (postingsStart w + rowPlace w n) w) ≡ listAt w n
       list = unfold listAt in refl
 

@@ -5,7 +5,7 @@
 use mathlib.Core.Path.{_≡_, sym, ap, ap₂, _∙_}
 use mathlib.Core.Bool.{true}
 use mathlib.Core.List.{List, [], _++_, map}
-use Prim.Native.Nat.{ℕ, _+_, _*_, _/_, _<_}
+use Prim.Native.Nat.{ℕ, _+_, _*_, _<_}
 use native.Mathlib.Omega.{arith}
 use lib.ListN.{length, getD, take, length-map, List·getD-map}
 use lib.Seq.{ext-getD}
@@ -18,12 +18,13 @@ use Rattle.laws.proofs.Tables.{map-tabulate, each-tabulate}
 use Rattle.index.specs.Words.{nameCount, rowCount, nameWord, nameId, nameSize, rowSize, rowFeature, listAt, total}
 use Rattle.index.specs.Good.{Good}
 use Rattle.index.specs.Lists.{featuresIn}
-use Rattle.index.specs.Built.{Entry, noEntry, wordOf, idSpan, tripleOf, allTriples, Row, noRow, triplesFrom, runsOf, wordsFrom, rowsOf, wordsOf, EntryFit, Fit, namesIn, rowIn, rowsIn, entryIn, entriesIn, Narrow}
-use Rattle.index.specs.Facts.{Facts}
-use Rattle.index.proofs.Facts.{good-facts}
+use Rattle.index.specs.Built.{Entry, noEntry, wordOf, idSpan, tripleOf, allTriples, Row, noRow, triplesFrom, runsOf, wordsFrom, rowsOf, wordsOf, EntryFit, Fit}
+use Rattle.index.specs.Contents.{namesIn, rowIn, rowsIn, entryIn, entriesIn, Narrow}
+use Rattle.index.specs.Plain.{Plain}
+use Rattle.index.proofs.Plain.{good-plain}
 use Rattle.index.proofs.Read.{words-in}
 use Rattle.index.proofs.Runs.{runs-unique, triples-place, triples-member, triples-ascending}
-use Rattle.index.proofs.Rows.{features-row, features-member, row-of-name, features-ascending, size-features, rows-fit}
+use Rattle.index.proofs.Holders.{features-row, features-member, row-of-name, features-ascending, size-features, rows-fit}
 use Rattle.index.proofs.Entries.{entries-place, entries-member, distinct-entries}
 use Rattle.index.proofs.Built.{fit-at, built-name-count, built-id, built-features, built-good, built-narrow, built-words, built-names-in}
 
@@ -108,8 +109,8 @@ entries-in-member w i f h m =
 -- ---- a good index is that of its own names
 
 module _ (w : List ℕ) (g : Good w) (narrow : Narrow w) where
-  facts : Facts w
-  facts = good-facts w g
+  facts : Plain w
+  facts = good-plain w g
 
   pub good-fit : Fit (entriesIn w)
   unfolding entriesIn
@@ -187,7 +188,7 @@ module _ (w : List ℕ) (g : Good w) (narrow : Narrow w) where
 
 same-id : (w v : List ℕ) (i : ℕ) → nameWord w i ≡ nameWord v i → nameId w i ≡ nameId v i
 unfolding nameId
-same-id w v i e = ap (λ (x : ℕ). x / 256) e
+same-id w v i e = rw e
 
 -- the same name words
 same-names : (w v : List ℕ) → namesIn w ≡ namesIn v → (nameCount w ≡ nameCount v) × ((i : ℕ) → i < nameCount w → nameWord w i ≡ nameWord v i)
@@ -217,8 +218,8 @@ good-unique w v g h narrow wide e same =
         features : featuresIn w (nameId w i) ≡ featuresIn v (nameId v i)
         features =
             ascending-unique (featuresIn w (nameId w i)) (featuresIn v (nameId v i))
-            (features-ascending w (good-facts w g) (nameId w i))
-            (features-ascending v (good-facts v h) (nameId v i))
+            (features-ascending w (good-plain w g) (nameId w i))
+            (features-ascending v (good-plain v h) (nameId v i))
             (λ f. same i f b ∙ ap (λ (x : ℕ). member f (featuresIn v x)) id)
 
 -- a good index with the names and features of given names is their index

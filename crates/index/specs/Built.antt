@@ -8,13 +8,11 @@ use mathlib.Core.List.{List, [], _∷_, _++_, map}
 use Prim.Native.Nat.{ℕ, _+_, _*_, _/_, _%_, _^_, _≤_, _<_}
 use lib.ListN.{length}
 use lib.Dec.{eqb}
-use Rattle.laws.specs.Lists.{member, Distinct, Ascending, tabulate}
+use Rattle.laws.specs.Lists.{member, Distinct, Ascending}
 use Rattle.laws.specs.Each.{Each}
 use Rattle.laws.specs.Sort.{sortOf}
 use Rattle.names.specs.Features.{mostFeatures}
-use Rattle.index.specs.Words.{nameCount, rowCount, nameWord, nameId, rowSize, rowFeature, listAt}
 use Rattle.index.specs.Good.{mostNames, largestId, leastSize}
-use Rattle.index.specs.Lists.{featuresIn}
 
 -- ---- a name with its features
 
@@ -144,29 +142,3 @@ pub record Fit (es : List Entry) : Type 0 where
   pub few : length es ≤ mostNames
   pub ids : Ascending (map (λ (e : Entry). e .id) es)
   pub each : Each EntryFit es
-
--- ---- what stands in given words
-
--- the name words, in order
-unfoldable pub namesIn : List ℕ → List ℕ
-namesIn w = tabulate (nameWord w) (nameCount w)
-
--- row r
-abbrev pub rowIn : List ℕ → ℕ → Row
-rowIn w r = record { key = keyOf (rowSize w r) (rowFeature w r); list = listAt w r }
-
--- the rows, in order
-unfoldable pub rowsIn : List ℕ → List Row
-rowsIn w = tabulate (rowIn w) (rowCount w)
-
--- name i with the features that it stands for
-abbrev pub entryIn : List ℕ → ℕ → Entry
-entryIn w i = record { id = nameId w i; features = featuresIn w (nameId w i) }
-
--- the names with their features, in order
-unfoldable pub entriesIn : List ℕ → List Entry
-entriesIn w = tabulate (entryIn w) (nameCount w)
-
--- the rows' features fit a word each; so wherever words are 32 bits wide
-abbrev pub Narrow : List ℕ → Type 0
-Narrow w = (r : ℕ) → r < rowCount w → rowFeature w r < featureSpan

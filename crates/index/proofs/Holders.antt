@@ -23,9 +23,10 @@ use Rattle.laws.proofs.Tables.{map-tabulate, each-tabulate}
 use Rattle.index.specs.Words.{nameCount, rowCount, nameId, nameSize, rowSize, rowFeature, listAt}
 use Rattle.index.specs.Good.{rowBefore, listsWith}
 use Rattle.index.specs.Lists.{rowIs, rowFor, listIn, featuresAmong, featuresIn}
-use Rattle.index.specs.Built.{Row, keyOf, RowFit, RowsFit, rowIn, rowsIn, Narrow}
-use Rattle.index.specs.Facts.{Facts}
-use Rattle.index.proofs.Facts.{facts-length}
+use Rattle.index.specs.Built.{Row, keyOf, RowFit, RowsFit}
+use Rattle.index.specs.Contents.{rowIn, rowsIn, Narrow}
+use Rattle.index.specs.Plain.{Plain}
+use Rattle.index.proofs.Plain.{plain-length}
 
 -- ---- a row before another
 
@@ -142,7 +143,11 @@ among-member w id (suc n) r l m =
     ⊎-elim
     (λ (e : r ≡ n).
     member-right (rowFeature w r) (featuresAmong w id n) (cond (member id (listAt w n)) (rowFeature w n ∷ []) [])
-    (ap₂ (λ (b : Bool) (s : ℕ). member (rowFeature w s) (cond b (rowFeature w n ∷ []) [])) (ap (λ (s : ℕ). member id (listAt w s)) (sym e) ∙ m) e ∙ member-head (rowFeature w n) []))
+    (ap₂
+    (λ (b : Bool) (s : ℕ). member (rowFeature w s) (cond b (rowFeature w n ∷ []) []))
+    (ap (λ (s : ℕ). member id (listAt w s)) (sym e) ∙ m)
+    e
+    ∙ member-head (rowFeature w n) []))
     (λ (h : r < n).
     member-left (rowFeature w r) (featuresAmong w id n) (cond (member id (listAt w n)) (rowFeature w n ∷ []) []) (among-member w id n r h m))
     (eq-or-lt-of-le k)
@@ -169,7 +174,7 @@ length-features-in w id = among-length w id (rowCount w)
 
 -- ---- in a good index
 
-module _ (w : List ℕ) (f : Facts w) where
+module _ (w : List ℕ) (f : Plain w) where
   rows-before-by : (r d : ℕ) → r + suc d < rowCount w → rowBefore w r (r + suc d) ≡ true
   rows-before-by r zero h = f .rows r h
   rows-before-by r (suc d) h =
@@ -309,7 +314,7 @@ module _ (w : List ℕ) (f : Facts w) where
       fit : (r : ℕ) → r < rowCount w → RowFit (rowIn w r)
       fit r h =
           record {
-            some = (let a = facts-length w f r h in let b = f .some r h in omega arith);
+            some = (let a = plain-length w f r h in let b = f .some r h in omega arith);
             up = f .up r h;
             ids = λ id m. (let p = f .named r id h m in let a = f .id (p .0) (p .1) in let e = p .2 in omega arith);
           }

@@ -1,4 +1,4 @@
--- What `Good` says, as statements: each list as a list, each listed id with its name. That the two say the same is in proofs/Facts.antt.
+-- What `Good` says, as statements: each list as a list, each listed id with its name. That the two say the same is in proofs/Plain.antt.
 -- Assumes nothing.
 use mathlib.Core.Path.{_≡_}
 use mathlib.Core.Bool.{true}
@@ -15,7 +15,7 @@ use Rattle.index.specs.Good.{mostNames, mostPostings, largestId, leastSi
 abbrev pub Named : List ℕ → ℕ → ℕ → Type 0
 Named w size id = (i : ℕ) × (i < nameCount w) × (nameId w i ≡ id) × (nameSize w i ≡ size)
 
-pub record Facts (w : List ℕ) : Type 0 where
+pub record Plain (w : List ℕ) : Type 0 where
   pub head : 3 ≤ length w
   pub few : nameCount w ≤ mostNames
   pub postings : postingCount w ≤ mostPostings

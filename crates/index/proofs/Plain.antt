@@ -1,4 +1,4 @@
--- A good index as statements, and back: `good-facts` and `facts-good`. Cited by whoever uses or makes a good index.
+-- A good index as statements, and back: `good-plain` and `plain-good`. Cited by whoever uses or makes a good index.
 -- Assumes nothing.
 use mathlib.Core.Path.{_≡_, sym, ap, _∙_}
 use mathlib.Core.Bool.{Bool, true, _&&_}
@@ -18,7 +18,7 @@ use Rattle.laws.proofs.Sort.{ascending-of, ascending-step}
 use Rattle.names.specs.Features.{mostFeatures}
 use Rattle.index.specs.Words.{nameCount, rowCount, postingCount, nameId, nameSize, rowSize, rowPlace, rowLength, postingsStart, posting, listStart, listAt, total}
 use Rattle.index.specs.Good.{mostNames, mostPostings, largestId, leastSize, headGood, nameGood, namesGood, rowBefore, placeDue, rowGood, rowsGood, isName, listGood, listsWith, listsGood, goodOf, Good}
-use Rattle.index.specs.Facts.{Named, Facts}
+use Rattle.index.specs.Plain.{Named, Plain}
 
 -- ---- the places of the rows
 
@@ -182,8 +182,8 @@ module _ (w : List ℕ) (g : Good w) where
       eqb-true (listsWith w (nameId w i)) (nameSize w i)
       (all-at (nameCount w) (λ (j : ℕ). eqb (listsWith w (nameId w j)) (nameSize w j)) (and-right (allBelow (rowCount w) (listGood w)) _ (parts .3)) i b)
 
-  pub good-facts : Facts w
-  good-facts =
+  pub good-plain : Plain w
+  good-plain =
       record {
         head = head-parts .0;
         few = head-parts .1;
@@ -204,9 +204,9 @@ module _ (w : List ℕ) (g : Good w) where
 
 -- ---- from the statements to the test
 
-module _ (w : List ℕ) (f : Facts w) where
-  pub facts-length : (r : ℕ) → r < rowCount w → length (listAt w r) ≡ rowLength w r
-  facts-length r b = length-list w (f .room) r (list-within w (f .place) (f .sum) r b)
+module _ (w : List ℕ) (f : Plain w) where
+  pub plain-length : (r : ℕ) → r < rowCount w → length (listAt w r) ≡ rowLength w r
+  plain-length r b = length-list w (f .room) r (list-within w (f .place) (f .sum) r b)
 
   head-test : headGood w ≡ true
   unfolding headGood
@@ -240,7 +240,7 @@ module _ (w : List ℕ) (f : Facts w) where
   list-test : (r : ℕ) → r < rowCount w → listGood w r ≡ true
   unfolding listGood isName
   list-test r b =
-      let n = facts-length r b in
+      let n = plain-length r b in
       and-both _ _
       (all-of (rowLength w r - 1) (λ (k : ℕ). ltb (posting w (rowPlace w r + k)) (posting w (rowPlace w r + (k + 1)))) (λ k c.
       let p = list-at w r k (omega arith) in
@@ -261,6 +261,6 @@ module _ (w : List ℕ) (f : Facts w) where
       (all-of (rowCount w) (listGood w) list-test)
       (all-of (nameCount w) (λ (i : ℕ). eqb (listsWith w (nameId w i)) (nameSize w i)) (λ i b. eq-eqb (listsWith w (nameId w i)) (nameSize w i) (f .held i b)))
 
-  pub facts-good : Good w
+  pub plain-good : Good w
   unfolding goodOf
-  facts-good = and-both _ _ (and-both _ _ (and-both _ _ head-test names-test) rows-test) lists-test
+  plain-good = and-both _ _ (and-both _ _ (and-both _ _ head-test names-test) rows-test) lists-test
