@@ -20,9 +20,11 @@ use Rattle.laws.proofs.Members.{bool-same, member-place, each-at, each-nil, eac
 use Rattle.laws.proofs.Order.{le-or-lt}
 use Rattle.laws.proofs.Sort.{ascending-nil, ascending-snoc, ascending-lt, ascending-step, ascending-unique, ascending-sort, member-sort, length-sort, count-sort, sort-map}
 use Rattle.laws.proofs.Tables.{count-tabulate, tabulate-of}
-use Rattle.names.specs.Features.{mostFeatures}
+use Rattle.names.specs.Names.{judgeOf}
+use Rattle.names.specs.Features.{characters, mostFeatures, featuresOf}
+use Rattle.names.proofs.Laws.{size-within, distinct-features, feature-fits}
 use Rattle.index.specs.Words.{nameCount, rowCount, postingCount, nameWord, nameId, nameSize, rowSize, rowFeature, rowPlace, rowLength, rowWidth, namesStart, listAt, total}
-use Rattle.index.specs.Good.{mostNames, mostPostings, rowBefore, listsWith, Good}
+use Rattle.index.specs.Good.{mostNames, mostPostings, largestId, rowBefore, listsWith, Good}
 use Rattle.index.specs.Lists.{listIn, featuresIn}
 use Rattle.index.specs.Built.{Entry, noEntry, wordOf, featureSpan, idSpan, tripleOf, triplesOf, allTriples, Row, noRow, runsOf, listsOf, triplesFrom, RowFit, RowsFit, rowWords, wordsFrom, rowsOf, wordsOf, EntryFit, Fit}
 use Rattle.index.specs.Contents.{namesIn, rowIn, rowsIn, entryIn, entriesIn, Narrow}
@@ -409,6 +411,18 @@ fit-snoc es e fit one few up =
         omega arith)
         (λ (h : p .0 < z). let l = ascending-lt ids (fit .ids) (p .0) z h (omega arith) in omega arith)
         (le-or-lt z (p .0))
+
+-- a register name with an id fits
+pub name-fit : (s : List ℕ) (id : ℕ) → judgeOf s ≡ 0 → ((j : ℕ) → getD s j 0 < characters) → id ≤ largestId
+    → EntryFit (record { id = id; features = featuresOf s })
+name-fit s id g bytes l =
+    record {
+      id = l;
+      least = size-within s g .0;
+      most = size-within s g .1;
+      distinct = distinct-features s;
+      below = λ f m. (let p = member-place f (featuresOf s) m in let b = feature-fits s bytes (p .0) in let e = p .2 in omega arith);
+    }
 
 -- the postings name after name
 pub triples-append : (es fs : List Entry) → allTriples (es ++ fs) ≡ allTriples es ++ allTriples fs
