@@ -18,8 +18,8 @@ use Rattle.laws.specs.Below.{sumBelow}
 use Rattle.laws.specs.Sort.{sortOf}
 use Rattle.laws.proofs.Members.{bool-same, member-place, each-at, each-nil, each-cons, each-append}
 use Rattle.laws.proofs.Order.{le-or-lt}
-use Rattle.laws.proofs.Sort.{ascending-nil, ascending-snoc, ascending-lt, ascending-step, ascending-unique, ascending-sort, member-sort, length-sort, count-sort, sort-map}
-use Rattle.laws.proofs.Tables.{count-tabulate, tabulate-of}
+use Rattle.laws.proofs.Sort.{ascending-nil, ascending-snoc, ascending-lt, ascending-step, ascending-unique, ascending-sort, member-sort, length-sort, count-sort}
+use Rattle.laws.proofs.Images.{sort-map, count-tabulate, tabulate-of}
 use Rattle.names.specs.Names.{judgeOf}
 use Rattle.names.specs.Features.{characters, mostFeatures, featuresOf}
 use Rattle.names.proofs.Laws.{size-within, distinct-features, feature-fits}

@@ -13,8 +13,9 @@ use borrow.Author.Tests.{eq-eqb, ne-eqb}
 use Rattle.laws.specs.Lists.{member, Distinct, Ascending, countOf}
 use Rattle.laws.specs.Each.{Each}
 use Rattle.laws.proofs.Lists.{count-append, count-none}
-use Rattle.laws.proofs.Members.{member-head, member-tail, member-nil, member-left, member-right, member-append-cases, member-map, member-map-place, count-map, count-all, distinct-append, distinct-map, each-first, each-rest, each-at}
+use Rattle.laws.proofs.Members.{member-head, member-tail, member-nil, member-left, member-right, member-append-cases, member-map, member-map-place, distinct-append, distinct-map, each-first, each-rest, each-at}
 use Rattle.laws.proofs.Sort.{above-member, ascending-above, ascending-rest}
+use Rattle.laws.proofs.Images.{count-map, count-all}
 use Rattle.names.specs.Features.{mostFeatures}
 use Rattle.index.specs.Built.{Entry, noEntry, idSpan, tripleOf, triplesOf, allTriples, EntryFit}
 

@@ -18,8 +18,8 @@ use Rattle.laws.proofs.Below.{and-left, and-right, and-both}
 use Rattle.laws.proofs.First.{first-passes}
 use Rattle.laws.proofs.Members.{bool-same, or-cases, or-right, member-head, member-one, member-nil, member-left, member-right, member-append-cases}
 use Rattle.laws.proofs.Order.{le-or-lt}
-use Rattle.laws.proofs.Sort.{ascending-nil, ascending-snoc, ascending-tabulate}
-use Rattle.laws.proofs.Tables.{map-tabulate, each-tabulate}
+use Rattle.laws.proofs.Sort.{ascending-nil, ascending-snoc}
+use Rattle.laws.proofs.Images.{ascending-tabulate, map-tabulate, each-tabulate}
 use Rattle.index.specs.Words.{nameCount, rowCount, nameId, nameSize, rowSize, rowFeature, listAt}
 use Rattle.index.specs.Good.{rowBefore, listsWith}
 use Rattle.index.specs.Lists.{rowIs, rowFor, listIn, featuresAmong, featuresIn}

@@ -12,7 +12,7 @@ use lib.Seq.{getD-drop, getD-take, drop-drop, drop-append-seam, take-append-seam
 use Rattle.laws.specs.Lists.{tabulate}
 use Rattle.laws.specs.Below.{sumBelow}
 use Rattle.laws.proofs.Lists.{length-tabulate}
-use Rattle.laws.proofs.Tables.{tabulate-of, tabulate-part}
+use Rattle.laws.proofs.Images.{tabulate-of, tabulate-part}
 use Rattle.index.specs.Words.{nameCount, rowCount, postingCount, namesStart, nameWord, rowsStart, rowStart, rowWidth, rowSize, rowFeature, rowPlace, rowLength, postingsStart, listAt, total}
 use Rattle.index.specs.Built.{Row, noRow, oneRow, longerRow, featureSpan, idSpan, listsOf, rowWords, wordsFrom}
 use Rattle.index.specs.Contents.{namesIn, rowIn, rowsIn, Narrow}

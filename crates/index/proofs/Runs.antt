@@ -12,9 +12,10 @@ use borrow.Author.Tests.{eq-eqb, ne-eqb}
 use Rattle.laws.specs.Lists.{member, AllAbove, Ascending, countOf}
 use Rattle.laws.specs.Each.{Each}
 use Rattle.laws.proofs.Lists.{count-append, count-one}
-use Rattle.laws.proofs.Members.{member-head, member-tail, member-cases, member-nil, member-one, member-left, member-right, member-append-cases, member-at, member-map, member-map-place, count-map, count-members, each-nil, each-cons, each-first, each-rest}
+use Rattle.laws.proofs.Members.{member-head, member-tail, member-cases, member-nil, member-one, member-left, member-right, member-append-cases, member-at, member-map, member-map-place, each-nil, each-cons, each-first, each-rest}
 use Rattle.laws.proofs.Order.{eq-or-ne}
-use Rattle.laws.proofs.Sort.{above-member, above-members, ascending-nil, ascending-one, ascending-cons, ascending-above, ascending-rest, ascending-distinct, ascending-append, ascending-map}
+use Rattle.laws.proofs.Sort.{above-member, above-members, ascending-nil, ascending-one, ascending-cons, ascending-above, ascending-rest, ascending-distinct, ascending-append}
+use Rattle.laws.proofs.Images.{count-map, count-members, ascending-map}
 use Rattle.index.specs.Built.{Row, noRow, idSpan, oneRow, joinRow, runsOf, listsOf, rowTriples, triplesFrom, RowFit, RowsFit}
 
 -- ---- one posting in front

@@ -13,8 +13,8 @@ use Rattle.laws.specs.Lists.{member, tabulate}
 use Rattle.laws.specs.Sort.{sortOf}
 use Rattle.laws.proofs.Lists.{length-tabulate, getD-tabulate, tabulate-ext}
 use Rattle.laws.proofs.Members.{bool-same}
-use Rattle.laws.proofs.Sort.{ascending-distinct, ascending-tabulate, ascending-unique, ascending-sort, member-sort, length-sort, sort-same}
-use Rattle.laws.proofs.Tables.{map-tabulate, each-tabulate}
+use Rattle.laws.proofs.Sort.{ascending-distinct, ascending-unique, ascending-sort, member-sort, length-sort, sort-same}
+use Rattle.laws.proofs.Images.{ascending-tabulate, map-tabulate, each-tabulate}
 use Rattle.index.specs.Words.{nameCount, rowCount, nameWord, nameId, nameSize, rowSize, rowFeature, listAt, total}
 use Rattle.index.specs.Good.{Good}
 use Rattle.index.specs.Lists.{featuresIn}

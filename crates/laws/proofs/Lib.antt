@@ -4,4 +4,4 @@ pub mod First
 pub mod Order
 pub mod Members
 pub mod Sort
-pub mod Tables
+pub mod Images

@@ -1,15 +1,15 @@
 -- Laws of the members of a list, and of a statement of each of them. Cited by `index` and `register`.
 -- Assumes nothing.
-use mathlib.Core.Path.{_≡_, refl, sym, ap, ap₂, _∙_}
+use mathlib.Core.Path.{_≡_, refl, sym, ap, _∙_}
 use mathlib.Core.Logic.{_⊎_, inl, inr, ⊎-elim}
-use mathlib.Core.Bool.{Bool, true, false, cond, _||_, true≢false, false≢true}
+use mathlib.Core.Bool.{Bool, true, false, _||_, true≢false, false≢true}
 use mathlib.Core.List.{List, [], _∷_, _++_, map}
-use Prim.Native.Nat.{ℕ, zero, suc, _+_, _<_}
+use Prim.Native.Nat.{ℕ, zero, suc, _<_}
 use native.Mathlib.Omega.{arith}
 use lib.ListN.{length, getD}
 use lib.Dec.{eqb}
 use borrow.Author.Tests.{eqb-true}
-use Rattle.laws.specs.Lists.{member, Distinct, countOf}
+use Rattle.laws.specs.Lists.{member, Distinct}
 use Rattle.laws.specs.Each.{Each}
 use Rattle.laws.proofs.Lists.{eqb-same, member-append}
 
@@ -100,24 +100,6 @@ member-map-place f y (x ∷ l) m =
     (λ (e : y ≡ f x). (x, member-head x l, sym e))
     (λ (n : member y (map f l) ≡ true). let h = member-map-place f y l n in (h .0, member-tail x (h .0) l (h .1), h .2))
     (member-cases (f x) y (map f l) m)
-
-pub count-map : {A B : Type 0} (t : B → Bool) (f : A → B) (l : List A) → countOf t (map f l) ≡ countOf (λ (x : A). t (f x)) l
-unfolding countOf
-count-map t f [] = refl
-count-map t f (x ∷ l) = ap (λ (n : ℕ). cond (t (f x)) 1 0 + n) (count-map t f l)
-
--- everything passes a test that passes on every element
-pub count-all : {A : Type 0} (t : A → Bool) → ((x : A) → t x ≡ true) → (l : List A) → countOf t l ≡ length l
-unfolding countOf
-count-all t e [] = refl
-count-all t e (x ∷ l) = let h = count-all t e l in let q = ap {B = ℕ} (λ (b : Bool). cond b 1 0) (e x) in omega arith
-
--- tests that agree on the members count alike
-pub count-members : (t u : ℕ → Bool) (l : List ℕ) → ((x : ℕ) → member x l ≡ true → t x ≡ u x) → countOf t l ≡ countOf u l
-unfolding countOf
-count-members t u [] h = refl
-count-members t u (x ∷ l) h =
-    ap₂ (λ (b : Bool) (n : ℕ). cond b 1 0 + n) (h x (member-head x l)) (count-members t u l (λ y m. h y (member-tail x y l m)))
 
 -- ---- all different
 
