@@ -39,12 +39,12 @@ use Rattle.index.proofs.Entries.{entries-place, entries-member, length-
 
 module _ (es : List Entry) (fit : Fit es) where
   -- the postings in order
-  pub sorted-ascending-triples : Ascending (sortOf (allTriples es))
-  sorted-ascending-triples = ascending-sort (allTriples es) (distinct-entries es (fit .ids) (fit .each))
+  pub ascending-triples : Ascending (sortOf (allTriples es))
+  ascending-triples = ascending-sort (allTriples es) (distinct-entries es (fit .ids) (fit .each))
 
   pub rows-of-fit : RowsFit (rowsOf es)
   unfolding rowsOf
-  rows-of-fit = runs-fit (sortOf (allTriples es)) sorted-ascending-triples
+  rows-of-fit = runs-fit (sortOf (allTriples es)) ascending-triples
 
   pub fit-at : (i : ℕ) → i < length es → EntryFit (getD es i noEntry)
   fit-at i h = each-at EntryFit es i noEntry (fit .each) h
