@@ -5,3 +5,11 @@ mod Facts
 pub mod Laws
 mod Rows
 pub mod Spans
+pub mod Read
+pub mod Plain
+pub mod Runs
+pub mod Holders
+pub mod Entries
+pub mod Built
+pub mod Unique
+pub mod Pass

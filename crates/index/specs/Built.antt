@@ -1,20 +1,28 @@
 -- The one index of given names: the picture of an index as its postings, triples of size, feature and id in ascending order.
 -- The posting words are the ids of that list in order; the rows are its runs of equal size and feature; the name words are the names by id.
--- Cited by whoever writes an index. That `wordsOf` is good, and the only good index of its names, is in proofs/.
+-- Cited by whoever writes an index. That `wordsOf` is good, and the only good index of its names, is in proofs/Built.antt and Unique.antt.
 -- Assumes nothing.
-use mathlib.Core.Bool.{cond}
+use mathlib.Core.Path.{_≡_}
+use mathlib.Core.Bool.{true, cond}
 use mathlib.Core.List.{List, [], _∷_, _++_, map}
-use Prim.Native.Nat.{ℕ, _+_, _*_, _/_, _%_, _^_}
+use Prim.Native.Nat.{ℕ, _+_, _*_, _/_, _%_, _^_, _≤_, _<_}
 use lib.ListN.{length}
 use lib.Dec.{eqb}
-use Rattle.laws.specs.Lists.{sumOf}
+use Rattle.laws.specs.Lists.{member, Distinct, Ascending}
+use Rattle.laws.specs.Each.{Each}
 use Rattle.laws.specs.Sort.{sortOf}
+use Rattle.names.specs.Features.{mostFeatures}
+use Rattle.index.specs.Good.{mostNames, largestId, leastSize}
 
 -- ---- a name with its features
 
 pub record Entry : Type 0 where
   pub id : ℕ
   pub features : List ℕ
+
+-- what stands where there is no name
+abbrev pub noEntry : Entry
+noEntry = record { id = 0; features = [] }
 
 -- its name word: id × 256 + size
 abbrev pub wordOf : Entry → ℕ
@@ -52,18 +60,47 @@ pub record Row : Type 0 where
   pub key : ℕ
   pub list : List ℕ
 
+-- what stands where there is no row
+abbrev pub noRow : Row
+noRow = record { key = 0; list = [] }
+
+-- the row of one posting
+abbrev pub oneRow : ℕ → Row
+oneRow k = record { key = k / idSpan; list = (k % idSpan) ∷ [] }
+
+-- a row with one id more at the end of its list
+abbrev pub longerRow : Row → ℕ → Row
+longerRow r id = record { key = r .key; list = r .list ++ (id ∷ []) }
+
 -- one posting in front of the rows: it joins the first row where that has its key, and is a row of its own otherwise
 unfoldable pub joinRow : ℕ → List Row → List Row
-joinRow k [] = record { key = k / idSpan; list = (k % idSpan) ∷ [] } ∷ []
-joinRow k (r ∷ rs) =
-    cond (eqb (k / idSpan) (r .key))
-    (record { key = r .key; list = (k % idSpan) ∷ r .list } ∷ rs)
-    (record { key = k / idSpan; list = (k % idSpan) ∷ [] } ∷ r ∷ rs)
+joinRow k [] = oneRow k ∷ []
+joinRow k (r ∷ rs) = cond (eqb (k / idSpan) (r .key)) (record { key = r .key; list = (k % idSpan) ∷ r .list } ∷ rs) (oneRow k ∷ r ∷ rs)
 
 -- the runs of equal size and feature of an ascending list of postings
 unfoldable pub runsOf : List ℕ → List Row
 runsOf [] = []
 runsOf (k ∷ ks) = joinRow k (runsOf ks)
+
+-- the postings of one row
+unfoldable pub rowTriples : Row → List ℕ
+rowTriples r = map (λ (id : ℕ). r .key * idSpan + id) (r .list)
+
+-- the postings of rows, row after row: what `runsOf` takes apart
+unfoldable pub triplesFrom : List Row → List ℕ
+triplesFrom [] = []
+triplesFrom (r ∷ rs) = rowTriples r ++ triplesFrom rs
+
+-- a row whose list holds something, ascends and holds ids
+pub record RowFit (r : Row) : Type 0 where
+  pub some : 1 ≤ length (r .list)
+  pub up : Ascending (r .list)
+  pub ids : (id : ℕ) → member id (r .list) ≡ true → id < idSpan
+
+-- rows that are runs: keys strictly ascending, each row fit
+pub record RowsFit (rows : List Row) : Type 0 where
+  pub keys : Ascending (map (λ (r : Row). r .key) rows)
+  pub each : Each RowFit rows
 
 -- ---- the words
 
@@ -89,3 +126,19 @@ rowsOf es = runsOf (sortOf (allTriples es))
 -- the index of names given by ascending id
 unfoldable pub wordsOf : List Entry → List ℕ
 wordsOf es = wordsFrom (map wordOf es) (rowsOf es)
+
+-- ---- the names that an index can hold
+
+-- one name: its id and its size are within the limits, its features are all different and fit a word
+pub record EntryFit (e : Entry) : Type 0 where
+  pub id : e .id ≤ largestId
+  pub least : leastSize ≤ length (e .features)
+  pub most : length (e .features) ≤ mostFeatures
+  pub distinct : Distinct (e .features)
+  pub below : (f : ℕ) → member f (e .features) ≡ true → f < featureSpan
+
+-- at most 256 names by ascending id, each fit; so of none
+pub record Fit (es : List Entry) : Type 0 where
+  pub few : length es ≤ mostNames
+  pub ids : Ascending (map (λ (e : Entry). e .id) es)
+  pub each : Each EntryFit es

@@ -3,3 +3,5 @@ pub mod Good
 pub mod Lists
 pub mod Built
 pub mod Part
+pub mod Plain
+pub mod Contents

@@ -7,6 +7,7 @@ pub mod Tables
 pub mod Filter
 pub mod Members
 pub mod Sort
+pub mod Images
 pub mod Ascending
 pub mod Halving
 pub mod Found
