@@ -4,4 +4,5 @@ pub mod Testing
 pub mod Laws
 pub mod Work
 pub mod Places
+pub mod Order
 mod Cases
