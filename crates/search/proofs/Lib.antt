@@ -5,4 +5,5 @@ pub mod Laws
 pub mod Work
 pub mod Places
 pub mod Order
+pub mod Counts
 mod Cases

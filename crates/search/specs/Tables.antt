@@ -3,12 +3,14 @@
 use mathlib.Core.Path.{_≡_}
 use mathlib.Core.Bool.{Bool, true, cond, _&&_}
 use mathlib.Core.List.{List}
-use Prim.Native.Nat.{ℕ, _+_, _*_, _/_, _≤_, _<_}
-use lib.ListN.{length, getD, take}
+use Prim.Native.Nat.{ℕ, _+_, _*_, _/_, _%_, _≤_, _<_}
+use lib.ListN.{length, getD, take, drop}
 use lib.Dec.{leb, ltb, eqb}
-use Rattle.laws.specs.Lists.{member, Distinct, tabulate}
+use Rattle.laws.specs.Lists.{member, Distinct, Ascending, tabulate}
+use Rattle.laws.specs.Below.{sumBelow, countBelow}
 use Rattle.index.specs.Good.{mostNames}
 use Rattle.index.specs.Lists.{spanIn, listIn}
+use Rattle.search.specs.Method.{heldBy, signatures, remains}
 
 -- ---- the names, as their words
 
@@ -65,3 +67,37 @@ startOf w y features j = spanIn w y (getD features j 0) .start
 -- the j-th feature's list length and place as one number, which orders by length, then by place
 unfoldable pub smallKey : List ℕ → ℕ → List ℕ → ℕ → ℕ
 smallKey w y features j = length (listIn w y (getD features j 0)) * 256 + j
+
+-- the k-th list in the keys' order, as the code cuts it out of the words: the key's length, from where its feature's list starts
+unfoldable pub cutAt : List ℕ → List ℕ → List ℕ → ℕ → List ℕ
+cutAt w keys starts k = take (getD keys k 0 / 256) (drop (getD starts (getD keys k 0 % 256) 0) w)
+
+-- all of them
+unfoldable pub cutLists : List ℕ → List ℕ → List ℕ → List (List ℕ)
+cutLists w keys starts = tabulate (cutAt w keys starts) (length keys)
+
+-- each can be cut, ascends, and holds only ids of names
+pub record Readable (w ns keys starts : List ℕ) : Type 0 where
+  pub place : (k : ℕ) → k < length keys → getD keys k 0 % 256 < length starts
+  pub within : (k : ℕ) → k < length keys → getD starts (getD keys k 0 % 256) 0 + getD keys k 0 / 256 ≤ length w
+  pub ascending : (k : ℕ) → k < length keys → Ascending (cutAt w keys starts k)
+  pub named : (k : ℕ) → k < length keys → Named ns (cutAt w keys starts k)
+
+-- ---- the counts of all names
+
+-- how many of the lists hold each name; 0 past the last name
+unfoldable pub heldTable : List ℕ → List (List ℕ) → List ℕ
+heldTable ns ls = tabulate (λ (i : ℕ). cond (ltb i (length ns)) (heldBy ls (idAt ns i)) 0) mostNames
+
+-- whether the name at place i remains after d later features; never past the last name
+unfoldable pub remainsAt : List ℕ → List (List ℕ) → ℕ → ℕ → ℕ → Bool
+remainsAt ns ls t d i = ltb i (length ns) && remains ls t d (idAt ns i)
+
+-- the counts of those that remain after d later features; 0 of all others
+unfoldable pub remainTable : List ℕ → List (List ℕ) → ℕ → ℕ → List ℕ
+remainTable ns ls t d =
+    tabulate (λ (i : ℕ). cond (remainsAt ns ls t d i) (heldBy (take (signatures (length ls) t + d) ls) (idAt ns i)) 0) mostNames
+
+-- the touches of d later features: one for each that remains before each
+unfoldable pub laterTouches : List ℕ → List (List ℕ) → ℕ → ℕ → ℕ
+laterTouches ns ls t d = sumBelow d (λ (e : ℕ). countBelow mostNames (remainsAt ns ls t e))
