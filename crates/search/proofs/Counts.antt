@@ -60,8 +60,8 @@ held-table-step ns ls k h =
     tabulate-ext (λ (i : ℕ). getD (tabulate f mostNames) i 0 + cond (ltb i (length ns) && member (idAt ns i) (getD ls k [])) 1 0)
     (λ (i : ℕ). cond (ltb i (length ns)) (heldBy (take (k + 1) ls) (idAt ns i)) 0) mostNames
     (λ i l.
-      ap (λ (c : ℕ). c + cond (ltb i (length ns) && member (idAt ns i) (getD ls k [])) 1 0) (getD-tabulate f mostNames i 0 l)
-      ∙ by-test (ltb i (length ns)) (idAt ns i))
+    ap (λ (c : ℕ). c + cond (ltb i (length ns) && member (idAt ns i) (getD ls k [])) 1 0) (getD-tabulate f mostNames i 0 l)
+    ∙ by-test (ltb i (length ns)) (idAt ns i))
   where
     by-test : (b : Bool) (id : ℕ) → cond b (heldBy (take k ls) id) 0 + cond (b && member id (getD ls k [])) 1 0 ≡ cond b (heldBy (take (k + 1) ls) id) 0
     by-test true id = sym (held-step ls id k h)
@@ -82,7 +82,7 @@ tested-none ns l left least counts i e = rw (eq-eqb (getD counts i 0) 0 e)
 -- who remains after one feature more
 remains-after : (ls : List (List ℕ)) (t d id : ℕ)
     → remains ls t (d + 1) id
-        ≡ remains ls t d id && leb t (heldBy (take (signatures (length ls) t + (d + 1)) ls) id + (length ls - (signatures (length ls) t + (d + 1))))
+    ≡ remains ls t d id && leb t (heldBy (take (signatures (length ls) t + (d + 1)) ls) id + (length ls - (signatures (length ls) t + (d + 1))))
 unfolding remains
 remains-after ls t d id = rw (add-one d)
 
@@ -119,8 +119,8 @@ module _ (ns : List ℕ) (ls : List (List ℕ)) (t : ℕ) (low : 1 ≤ t) (high 
       tabulate-ext (λ (i : ℕ). cond (ltb i (length ns)) (heldBy (take (signatures (length ls) t) ls) (idAt ns i)) 0)
       (λ (i : ℕ). cond (ltb i (length ns) && leb 1 (heldBy (take (signatures (length ls) t) ls) (idAt ns i))) (heldBy (take (signatures (length ls) t + 0) ls) (idAt ns i)) 0) mostNames
       (λ i h.
-        let e : signatures (length ls) t + 0 ≡ signatures (length ls) t = omega arith in
-        rw e (by-test (ltb i (length ns)) (heldBy (take (signatures (length ls) t) ls) (idAt ns i))))
+      let e : signatures (length ls) t + 0 ≡ signatures (length ls) t = omega arith in
+      rw e (by-test (ltb i (length ns)) (heldBy (take (signatures (length ls) t) ls) (idAt ns i))))
     where
       by-test : (b : Bool) (c : ℕ) → cond b c 0 ≡ cond (b && leb 1 c) c 0
       by-test true zero = refl
@@ -152,7 +152,7 @@ module _ (ns : List ℕ) (ls : List (List ℕ)) (t : ℕ) (low : 1 ≤ t) (high 
   remain-count d h met m b =
       met-count (remainTable ns ls t d) met m b (unfold remainTable in (length-tabulate (λ (j : ℕ). cond (remainsAt ns ls t d j) (heldBy (take (signatures (length ls) t + d) ls) (idAt ns j)) 0) mostNames))
       ∙ sum-below-ext mostNames (λ (i : ℕ). cond (leb 1 (getD (remainTable ns ls t d) i 0)) 1 0) (λ (i : ℕ). cond (remainsAt ns ls t d i) 1 0)
-        (λ i l. ap (λ (x : Bool). cond x 1 0) (remain-those d h i l))
+      (λ i l. ap (λ (x : Bool). cond x 1 0) (remain-those d h i l))
 
   by-sum : (n left : ℕ) → (t ≤ n + left) ⊎ (n + left < t) → cond (ltb (n + left) t) 0 n ≡ cond (leb t (n + left)) n 0
   by-sum n left o =
@@ -164,14 +164,14 @@ module _ (ns : List ℕ) (ls : List (List ℕ)) (t : ℕ) (low : 1 ≤ t) (high 
   remain-tested : (d left : ℕ) → d < laterCount ls t → left ≡ length ls - (signatures (length ls) t + d) - 1
       → (i : ℕ) → i < mostNames → (b : Bool) → remainsAt ns ls t d i ≡ b
       → testedAt ns (getD ls (signatures (length ls) t + d) []) left t (remainTable ns ls t d) i
-          ≡ cond (remainsAt ns ls t (d + 1) i) (heldBy (take (signatures (length ls) t + (d + 1)) ls) (idAt ns i)) 0
+      ≡ cond (remainsAt ns ls t (d + 1) i) (heldBy (take (signatures (length ls) t + (d + 1)) ls) (idAt ns i)) 0
   remain-tested d left h e i l true q =
       let p = at-remains ns ls t d i q in
       let k : signatures (length ls) t + (d + 1) ≡ (signatures (length ls) t + d) + 1 = omega arith in
       let c = heldBy (take (signatures (length ls) t + d) ls) (idAt ns i) in
       let n = heldBy (take (signatures (length ls) t + (d + 1)) ls) (idAt ns i) in
       let x : n ≡ c + cond (member (idAt ns i) (getD ls (signatures (length ls) t + d) [])) 1 0 =
-          ap (λ (m : ℕ). heldBy (take m ls) (idAt ns i)) k ∙ held-step ls (idAt ns i) (signatures (length ls) t + d) (omega arith)
+      ap (λ (m : ℕ). heldBy (take m ls) (idAt ns i)) k ∙ held-step ls (idAt ns i) (signatures (length ls) t + d) (omega arith)
       in
       let z : length ls - (signatures (length ls) t + (d + 1)) ≡ left = omega arith in
       tested-some ns (getD ls (signatures (length ls) t + d) []) left t (remainTable ns ls t d) i c n (p .0) (remain-value ns ls t d i l ∙ (rw q)) (remains-some d (idAt ns i) (omega arith) (p .1)) x
@@ -189,3 +189,38 @@ module _ (ns : List ℕ) (ls : List (List ℕ)) (t : ℕ) (low : 1 ≤ t) (high 
       tabulate-ext (testedAt ns (getD ls (signatures (length ls) t + d) []) left t (remainTable ns ls t d))
       (λ (i : ℕ). cond (remainsAt ns ls t (d + 1) i) (heldBy (take (signatures (length ls) t + (d + 1)) ls) (idAt ns i)) 0) mostNames
       (λ i l. remain-tested d left h e i l (remainsAt ns ls t d i) refl)
+
+-- ---- the lists as the code cuts them
+
+pub length-cut : (w keys starts : List ℕ) → length (cutLists w keys starts) ≡ length keys
+unfolding cutLists
+length-cut w keys starts = length-tabulate (cutAt w keys starts) (length keys)
+
+pub getD-cut : (w keys starts : List ℕ) (k : ℕ) → k < length keys → getD (cutLists w keys starts) k [] ≡ cutAt w keys starts k
+unfolding cutLists
+getD-cut w keys starts k h = getD-tabulate (cutAt w keys starts) (length keys) k [] h
+
+-- no count is above the number of lists
+pub held-table-most : (ns : List ℕ) (ls : List (List ℕ)) (i : ℕ) → getD (heldTable ns ls) i 0 ≤ length ls
+unfolding heldTable heldBy
+held-table-most ns ls i =
+    ⊎-elim
+    (λ (q : mostNames ≤ i).
+    let z = List·getD-eq-default (tabulate (λ (j : ℕ). cond (ltb j (length ns)) (countOf (λ (l : List ℕ). member (idAt ns j) l) ls) 0) mostNames) 0 {n = i} (rw length-tabulate q) in
+    omega arith)
+    (λ (q : i < mostNames).
+    rw (getD-tabulate (λ (j : ℕ). cond (ltb j (length ns)) (countOf (λ (l : List ℕ). member (idAt ns j) l) ls) 0) mostNames i 0 q)
+    (by-test (ltb i (length ns)) (count-le (λ (l : List ℕ). member (idAt ns i) l) ls)))
+    (le-or-lt mostNames i)
+  where
+    by-test : (b : Bool) {n : ℕ} → n ≤ length ls → cond b n 0 ≤ length ls
+    by-test true k = k
+    by-test false k = omega arith
+
+-- a table of zeros holds 0 everywhere, past its end too
+pub zero-table : (i : ℕ) → _≡_ {A = ℕ} (getD (tabulate (λ (j : ℕ). 0) mostNames) i 0) 0
+zero-table i =
+    ⊎-elim
+    (λ (q : mostNames ≤ i). List·getD-eq-default (tabulate (λ (j : ℕ). 0) mostNames) 0 {n = i} (rw (length-tabulate {A = ℕ} (λ (j : ℕ). 0) mostNames) q))
+    (λ (q : i < mostNames). getD-tabulate (λ (j : ℕ). 0) mostNames i 0 q)
+    (le-or-lt mostNames i)

@@ -30,11 +30,11 @@ ascending-map-on f (x ∷ l) h a =
     ascending-cons (f x) (map f l)
     (above-members (f x) (map f l)
     (λ z m.
-      let p = member-map-place f z l m in
-      let b = above-member x l (ascending-above x l a) (p .0) (p .1) in
-      let r = h x (p .0) (member-head x l) (member-tail x (p .0) l (p .1)) b in
-      let e = p .2 in
-      omega arith))
+    let p = member-map-place f z l m in
+    let b = above-member x l (ascending-above x l a) (p .0) (p .1) in
+    let r = h x (p .0) (member-head x l) (member-tail x (p .0) l (p .1)) b in
+    let e = p .2 in
+    omega arith))
     (ascending-map-on f l (λ u v m n k. h u v (member-tail x u l m) (member-tail x v l n) k) (ascending-rest x l a))
 
 getD-map-lt : {A B : Type 0} (f : A → B) (l : List A) (k : ℕ) (d : A) (e : B) → k < length l → getD (map f l) k e ≡ f (getD l k d)
@@ -121,8 +121,8 @@ module _ (w : List ℕ) (y : ℕ) (query : List ℕ) (asked : Query query) (few 
           ⊎-elim
           (λ (c : j ≤ i). omega arith)
           (λ (c : i < j).
-            let r = ascending-lt sorted (ascending-sort query (asked .distinct)) i j c (rw (length-sort query) hj) in
-            omega arith)
+          let r = ascending-lt sorted (ascending-sort query (asked .distinct)) i j c (rw (length-sort query) hj) in
+          omega arith)
           (le-or-lt j i)
 
   keys-distinct : Distinct (map key query)
@@ -146,6 +146,7 @@ module _ (w : List ℕ) (y : ℕ) (query : List ℕ) (asked : Query query) (few 
           let k : ℕ = smallKey w y sorted (q .0) in
           let e : large k ≡ z = large-small (q .0) h ∙ ap key (q .2) ∙ p .2 in
           rw e at (member-map large k smallKeys (member-sort k (tabulate (smallKey w y sorted) (length query)) ∙ tabulate-member (smallKey w y sorted) (length query) (q .0) h))
+
       back : (z : ℕ) → member z (map large smallKeys) ≡ true → member z (map key query) ≡ true
       back z m =
           let p = member-map-place large z smallKeys m in
@@ -159,8 +160,8 @@ module _ (w : List ℕ) (y : ℕ) (query : List ℕ) (asked : Query query) (few 
   -- the k-th key in order: the place of a feature, whose list is the k-th of the method's, and that list's length
   pub kth-key : (k : ℕ) → k < length query
       → (getD smallKeys k 0 % 256 < length query)
-          × (getD (listsFor w y query) k [] ≡ listIn w y (getD sorted (getD smallKeys k 0 % 256) 0))
-          × (getD smallKeys k 0 / 256 ≡ length (listIn w y (getD sorted (getD smallKeys k 0 % 256) 0)))
+      × (getD (listsFor w y query) k [] ≡ listIn w y (getD sorted (getD smallKeys k 0 % 256) 0))
+      × (getD smallKeys k 0 / 256 ≡ length (listIn w y (getD sorted (getD smallKeys k 0 % 256) 0)))
   unfolding listsFor orderedFor
   kth-key k h =
       let z : ℕ = getD smallKeys k 0 in
@@ -173,16 +174,16 @@ module _ (w : List ℕ) (y : ℕ) (query : List ℕ) (asked : Query query) (few 
       let s = small-feature (getD sorted (p .0) 0) (sorted-member (p .0) l) in
       let n : length (map large smallKeys) ≡ length query = length-map smallKeys large ∙ length-small in
       let f : getD (map (λ (q : ℕ). q % featureSpan) (sortOf (map key query))) k 0 ≡ getD sorted (p .0) 0 =
-          ap (λ (q : List ℕ). getD (map (λ (v : ℕ). v % featureSpan) q) k 0) keys-order
-          ∙ getD-map-lt (λ (v : ℕ). v % featureSpan) (map large smallKeys) k 0 0 (rw n h)
-          ∙ ap (λ (v : ℕ). v % featureSpan) (getD-map-lt large smallKeys k 0 0 (rw length-small h) ∙ ap large (sym e) ∙ large-small (p .0) l)
-          ∙ (let q : key (getD sorted (p .0) 0) % featureSpan ≡ getD sorted (p .0) 0 = omega arith in q)
+      ap (λ (q : List ℕ). getD (map (λ (v : ℕ). v % featureSpan) q) k 0) keys-order
+      ∙ getD-map-lt (λ (v : ℕ). v % featureSpan) (map large smallKeys) k 0 0 (rw n h)
+      ∙ ap (λ (v : ℕ). v % featureSpan) (getD-map-lt large smallKeys k 0 0 (rw length-small h) ∙ ap large (sym e) ∙ large-small (p .0) l)
+      ∙ (let q : key (getD sorted (p .0) 0) % featureSpan ≡ getD sorted (p .0) 0 = omega arith in q)
       in
       let m : length (map (λ (q : ℕ). q % featureSpan) (sortOf (map key query))) ≡ length query =
-          length-map (sortOf (map key query)) (λ (q : ℕ). q % featureSpan) ∙ length-sort (map key query) ∙ length-map query key
-      in
-      ( omega arith
-      , getD-map-lt (listIn w y) (map (λ (q : ℕ). q % featureSpan) (sortOf (map key query))) k 0 [] (rw m h)
-        ∙ ap (listIn w y) (f ∙ ap (λ (v : ℕ). getD sorted v 0) (sym r))
-      , d ∙ ap (λ (v : ℕ). length (listIn w y (getD sorted v 0))) (sym r)
+      length-map (sortOf (map key query)) (λ (q : ℕ). q % featureSpan) ∙ length-sort (map key query) ∙ length-map query key
+      in (
+        omega arith,
+        getD-map-lt (listIn w y) (map (λ (q : ℕ). q % featureSpan) (sortOf (map key query))) k 0 [] (rw m h)
+            ∙ ap (listIn w y) (f ∙ ap (λ (v : ℕ). getD sorted v 0) (sym r)),
+        d ∙ ap (λ (v : ℕ). length (listIn w y (getD sorted v 0))) (sym r),
       )

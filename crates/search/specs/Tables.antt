@@ -1,12 +1,12 @@
 -- The tables that the code keeps by a name's place among the names: counts, and the candidates met. Cited by the contracts of the code's parts.
 -- Assumes nothing.
 use mathlib.Core.Path.{_≡_}
-use mathlib.Core.Bool.{Bool, true, cond, _&&_}
-use mathlib.Core.List.{List}
+use mathlib.Core.Bool.{Bool, true, false, cond, _&&_}
+use mathlib.Core.List.{List, map}
 use Prim.Native.Nat.{ℕ, _+_, _*_, _/_, _%_, _≤_, _<_}
 use lib.ListN.{length, getD, take, drop}
 use lib.Dec.{leb, ltb, eqb}
-use Rattle.laws.specs.Lists.{member, Distinct, Ascending, tabulate}
+use Rattle.laws.specs.Lists.{member, Distinct, Ascending, tabulate, sumOf}
 use Rattle.laws.specs.Below.{sumBelow, countBelow}
 use Rattle.index.specs.Good.{mostNames}
 use Rattle.index.specs.Lists.{spanIn, listIn}
@@ -79,6 +79,7 @@ cutLists w keys starts = tabulate (cutAt w keys starts) (length keys)
 -- each can be cut, ascends, and holds only ids of names
 pub record Readable (w ns keys starts : List ℕ) : Type 0 where
   pub place : (k : ℕ) → k < length keys → getD keys k 0 % 256 < length starts
+  pub short : (k : ℕ) → k < length keys → getD keys k 0 / 256 ≤ mostNames
   pub within : (k : ℕ) → k < length keys → getD starts (getD keys k 0 % 256) 0 + getD keys k 0 / 256 ≤ length w
   pub ascending : (k : ℕ) → k < length keys → Ascending (cutAt w keys starts k)
   pub named : (k : ℕ) → k < length keys → Named ns (cutAt w keys starts k)
@@ -101,3 +102,16 @@ remainTable ns ls t d =
 -- the touches of d later features: one for each that remains before each
 unfoldable pub laterTouches : List ℕ → List (List ℕ) → ℕ → ℕ → ℕ
 laterTouches ns ls t d = sumBelow d (λ (e : ℕ). countBelow mostNames (remainsAt ns ls t e))
+
+-- ---- what the phases come to
+
+-- the postings of the first n lists
+abbrev pub postingsOf : List (List ℕ) → ℕ → ℕ
+postingsOf ls n = sumOf (map length (take n ls))
+
+-- after the signature lists: past exactly when their postings exceed the budget; otherwise they are the touches, and the tables hold the counts
+pub record Gathered (ns : List ℕ) (ls : List (List ℕ)) (n budget : ℕ) (counts met : List ℕ) (past : Bool) (touches m : ℕ) : Type 0 where
+  pub over : past ≡ ltb budget (postingsOf ls n)
+  pub cost : past ≡ false → touches ≡ postingsOf ls n
+  pub table : past ≡ false → counts ≡ heldTable ns (take n ls)
+  pub candidates : past ≡ false → MetBy counts met m

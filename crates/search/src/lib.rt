@@ -1,7 +1,7 @@
 // The counted search over plain lent slices. The rule: docs/RULE.md, "The counted search"; the definitions: specs/.
 ghost use mathlib.Core.Path.{_≡_};
 ghost use mathlib.Core.List.{List, _++_};
-ghost use Prim.Native.Nat.{ℕ, _+_, _*_, _≤_, _<_};
+ghost use Prim.Native.Nat.{ℕ, _+_, _*_, _/_, _%_, _≤_, _<_};
 ghost use lib.ListN.{length, getD, take, drop};
 ghost use lib.Dec.{eqb, leb};
 ghost use mathlib.Core.Bool.{cond};
@@ -10,7 +10,7 @@ ghost use Rattle.laws.specs.Below.{countBelow};
 ghost use Rattle.names.specs.Features.{mostFeatures};
 ghost use Rattle.index.specs.Good.{Good, mostNames};
 ghost use Rattle.search.specs.Method.{namesOf, sizesEnd};
-ghost use Rattle.search.specs.Tables.{Names, Named, MetBy, tallied, tested, kept, startOf, smallKey};
+ghost use Rattle.search.specs.Tables.{Names, Named, MetBy, tallied, tested, kept, startOf, smallKey, cutAt, cutLists, Readable, Gathered};
 
 // What a search answers. specs/Answers.antt sets out the number and the values of each case.
 pub enum Answer {
@@ -141,5 +141,64 @@ fn find_lists(words: &[u32], features: &[u64], size: u32, starts: &mut [usize], 
         starts[j] = place.start;
         keys[j] = place.count as u64 * 256 + j as u64;
         j += 1;
+    }
+}
+
+// The k-th list in the keys' order, as that part of the words.
+fn list_in<'a>(words: &'a [u32], keys: &[u64], starts: &[usize], k: usize) -> &'a [u32]
+    requires { ⌜ (k < length (now keys)) × (getD (now keys) k 0 % 256 < length (now starts)) × (getD (now keys) k 0 / 256 ≤ mostNames) × (getD (now starts) (getD (now keys) k 0 % 256) 0 + getD (now keys) k 0 / 256 ≤ length (now words)) ⌝ }
+    ensures { λ r. ⌜ (now r ≡ cutAt (now (words .entry)) (now (keys .entry)) (now (starts .entry)) k) × (length (now r) ≤ mostNames) ⌝ }
+{
+    let key = keys[k];
+    let j = (key % 256) as usize;
+    let start = starts[j];
+    let end = start + (key / 256) as usize;
+    &words[start..end]
+}
+
+// ---- the two phases of a size
+
+// What a phase has come to: past the budget, or so many touches and so many met.
+struct Walk {
+    past: bool,
+    touches: usize,
+    met: usize,
+}
+
+// The signature lists, tallied: each posting is a touch.
+fn gather(
+    words: &[u32],
+    names: &[u32],
+    keys: &[u64],
+    starts: &[usize],
+    signatures: usize,
+    budget: usize,
+    counts: &mut [u32],
+    met: &mut [usize],
+) -> Walk
+    requires { ⌜ Names (now names) × Ascending (now names) × Readable (now words) (now names) (now keys) (now starts) × (signatures ≤ length (now keys)) × (length (now keys) ≤ mostFeatures) ⌝ }
+    requires { ⌜ (now counts ≡ tabulate (λ (i : ℕ). 0) mostNames) × (length (now met) ≡ mostNames) ⌝ }
+    ensures { λ r. ⌜ Gathered (now (names .entry)) (cutLists (now (words .entry)) (now (keys .entry)) (now (starts .entry))) signatures budget (now (counts .exit)) (now (met .exit)) (r .past) (r .touches) (r .met) ⌝ }
+{
+    let mut m = 0;
+    let mut touches = 0;
+    let mut k = 0;
+    while k < signatures {
+        let list = list_in(words, keys, starts, k);
+        if budget - touches < list.len() {
+            return Walk {
+                past: true,
+                touches: 0,
+                met: 0,
+            };
+        }
+        touches += list.len();
+        m = tally(names, list, counts, met, m);
+        k += 1;
+    }
+    Walk {
+        past: false,
+        touches,
+        met: m,
     }
 }
