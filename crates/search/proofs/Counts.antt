@@ -7,14 +7,14 @@ use mathlib.Core.List.{List, [], _∷_, _++_, map}
 use Prim.Native.Nat.{ℕ, zero, suc, _+_, _-_, _/_, _%_, _≤_, _<_}
 use native.Mathlib.Numerals.{add-one}
 use native.Mathlib.Omega.{arith}
-use lib.ListN.{length, getD, take, drop, length-drop, List·getD-eq-default}
+use lib.ListN.{length, getD, take, drop, length-take, List·getD-eq-default}
 use lib.Seq.{take-suc, length-take-le}
 use lib.Dec.{eqb, ltb, leb}
-use borrow.Author.Tests.{eq-eqb, ne-eqb, lt-ltb, le-ltb, le-leb, lt-leb, leb-true, leb-false}
+use borrow.Author.Tests.{eq-eqb, ne-eqb, lt-ltb, le-ltb, le-leb, lt-leb, leb-true, ltb-true}
 use Rattle.laws.specs.Lists.{member, tabulate, sumOf, countOf}
 use Rattle.laws.specs.Below.{sumBelow, countBelow}
 use Rattle.laws.proofs.Lists.{count-le, length-tabulate, getD-tabulate, tabulate-ext}
-use Rattle.laws.proofs.Below.{sum-below-ext, and-left}
+use Rattle.laws.proofs.Below.{sum-below-ext, sum-below-step, sum-below-up}
 use Rattle.laws.proofs.Tests.{same-test, and-parts}
 use Rattle.laws.proofs.Order.{le-or-lt}
 use Rattle.index.specs.Good.{mostNames}
@@ -224,3 +224,56 @@ zero-table i =
     (λ (q : mostNames ≤ i). List·getD-eq-default (tabulate (λ (j : ℕ). 0) mostNames) 0 {n = i} (rw (length-tabulate {A = ℕ} (λ (j : ℕ). 0) mostNames) q))
     (λ (q : i < mostNames). getD-tabulate (λ (j : ℕ). 0) mostNames i 0 q)
     (le-or-lt mostNames i)
+
+-- ---- the counts of those that remain
+
+pub length-remain : (ns : List ℕ) (ls : List (List ℕ)) (t d : ℕ) → length (remainTable ns ls t d) ≡ mostNames
+unfolding remainTable
+length-remain ns ls t d =
+    length-tabulate (λ (j : ℕ). cond (remainsAt ns ls t d j) (heldBy (take (signatures (length ls) t + d) ls) (idAt ns j)) 0) mostNames
+
+remain-past : (ns : List ℕ) (ls : List (List ℕ)) (t d i : ℕ) → mostNames ≤ i → getD (remainTable ns ls t d) i 0 ≡ 0
+remain-past ns ls t d i q = List·getD-eq-default (remainTable ns ls t d) 0 {n = i} (rw (length-remain ns ls t d) q)
+
+held-most : (ls : List (List ℕ)) (n id : ℕ) → heldBy (take n ls) id ≤ length ls
+unfolding heldBy
+held-most ls n id =
+    let c = count-le (λ (l : List ℕ). member id l) (take n ls) in
+    let m = length-take n ls in
+    omega arith
+
+-- none is above the number of lists
+pub remain-most : (ns : List ℕ) (ls : List (List ℕ)) (t d i : ℕ) → getD (remainTable ns ls t d) i 0 ≤ length ls
+remain-most ns ls t d i =
+    ⊎-elim
+    (λ (q : mostNames ≤ i). let z = remain-past ns ls t d i q in omega arith)
+    (λ (q : i < mostNames). rw (remain-value ns ls t d i q) (by-test (remainsAt ns ls t d i) (held-most ls (signatures (length ls) t + d) (idAt ns i))))
+    (le-or-lt mostNames i)
+  where
+    by-test : (b : Bool) {n : ℕ} → n ≤ length ls → cond b n 0 ≤ length ls
+    by-test true k = k
+    by-test false k = omega arith
+
+-- only names have a count
+pub remain-names : (ns : List ℕ) (ls : List (List ℕ)) (t d i : ℕ) → 1 ≤ getD (remainTable ns ls t d) i 0 → i < length ns
+remain-names ns ls t d i o =
+    ⊎-elim
+    (λ (q : mostNames ≤ i). let z = remain-past ns ls t d i q in absurd (omega arith))
+    (λ (q : i < mostNames). by-test (remainsAt ns ls t d i) refl (rw (remain-value ns ls t d i q) at o))
+    (le-or-lt mostNames i)
+  where
+    by-test : (b : Bool) → remainsAt ns ls t d i ≡ b → 1 ≤ cond b (heldBy (take (signatures (length ls) t + d) ls) (idAt ns i)) 0 → i < length ns
+    by-test true e k = ltb-true i (length ns) (at-remains ns ls t d i e .0)
+    by-test false e k = absurd (omega arith)
+
+pub later-step : (ns : List ℕ) (ls : List (List ℕ)) (t d : ℕ) → laterTouches ns ls t (d + 1) ≡ laterTouches ns ls t d + countBelow mostNames (remainsAt ns ls t d)
+unfolding laterTouches
+later-step ns ls t d = sum-below-step (λ (e : ℕ). countBelow mostNames (remainsAt ns ls t e)) d
+
+pub later-up : (ns : List ℕ) (ls : List (List ℕ)) (t d e : ℕ) → laterTouches ns ls t d ≤ laterTouches ns ls t (d + e)
+unfolding laterTouches
+later-up ns ls t d e = sum-below-up d e (λ (f : ℕ). countBelow mostNames (remainsAt ns ls t f))
+
+pub later-nil : (ns : List ℕ) (ls : List (List ℕ)) (t : ℕ) → laterTouches ns ls t 0 ≡ 0
+unfolding laterTouches sumBelow
+later-nil ns ls t = refl

@@ -10,7 +10,7 @@ use Rattle.laws.specs.Lists.{member, Distinct, Ascending, tabulate, sumOf}
 use Rattle.laws.specs.Below.{sumBelow, countBelow}
 use Rattle.index.specs.Good.{mostNames}
 use Rattle.index.specs.Lists.{spanIn, listIn}
-use Rattle.search.specs.Method.{heldBy, signatures, remains}
+use Rattle.search.specs.Method.{heldBy, signatures, remains, laterCount}
 
 -- ---- the names, as their words
 
@@ -114,4 +114,11 @@ pub record Gathered (ns : List ℕ) (ls : List (List ℕ)) (n budget : ℕ) (cou
   pub over : past ≡ ltb budget (postingsOf ls n)
   pub cost : past ≡ false → touches ≡ postingsOf ls n
   pub table : past ≡ false → counts ≡ heldTable ns (take n ls)
+  pub candidates : past ≡ false → MetBy counts met m
+
+-- after the later lists: past exactly when their touches exceed the budget; otherwise the tables hold the counts of those left
+pub record Narrowed (ns : List ℕ) (ls : List (List ℕ)) (t budget : ℕ) (counts met : List ℕ) (past : Bool) (touches m : ℕ) : Type 0 where
+  pub over : past ≡ ltb budget (laterTouches ns ls t (laterCount ls t))
+  pub cost : past ≡ false → touches ≡ laterTouches ns ls t (laterCount ls t)
+  pub table : past ≡ false → counts ≡ remainTable ns ls t (laterCount ls t)
   pub candidates : past ≡ false → MetBy counts met m

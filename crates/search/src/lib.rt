@@ -10,7 +10,7 @@ ghost use Rattle.laws.specs.Below.{countBelow};
 ghost use Rattle.names.specs.Features.{mostFeatures};
 ghost use Rattle.index.specs.Good.{Good, mostNames};
 ghost use Rattle.search.specs.Method.{namesOf, sizesEnd};
-ghost use Rattle.search.specs.Tables.{Names, Named, MetBy, tallied, tested, kept, startOf, smallKey, cutAt, cutLists, Readable, Gathered};
+ghost use Rattle.search.specs.Tables.{Names, Named, MetBy, tallied, tested, kept, startOf, smallKey, cutAt, cutLists, Readable, remainTable, Gathered, Narrowed};
 
 // What a search answers. specs/Answers.antt sets out the number and the values of each case.
 pub enum Answer {
@@ -194,6 +194,54 @@ fn gather(
         }
         touches += list.len();
         m = tally(names, list, counts, met, m);
+        k += 1;
+    }
+    Walk {
+        past: false,
+        touches,
+        met: m,
+    }
+}
+
+// The later lists: each candidate that remains is tested once, a touch each.
+fn narrow(
+    words: &[u32],
+    names: &[u32],
+    keys: &[u64],
+    starts: &[usize],
+    least: usize,
+    budget: usize,
+    counts: &mut [u32],
+    met: &mut [usize],
+    already: usize,
+) -> Walk
+    requires { ⌜ Names (now names) × Readable (now words) (now names) (now keys) (now starts) × (length (now keys) ≤ mostFeatures) × (1 ≤ least) × (least ≤ length (now keys)) ⌝ }
+    requires { ⌜ (now counts ≡ remainTable (now names) (cutLists (now words) (now keys) (now starts)) least 0) × (length (now met) ≡ mostNames) × MetBy (now counts) (now met) already ⌝ }
+    ensures { λ r. ⌜ Narrowed (now (names .entry)) (cutLists (now (words .entry)) (now (keys .entry)) (now (starts .entry))) least budget (now (counts .exit)) (now (met .exit)) (r .past) (r .touches) (r .met) ⌝ }
+{
+    let x = keys.len();
+    let mut m = already;
+    let mut touches = 0;
+    let mut k = x - least + 1;
+    while k < x {
+        if budget - touches < m {
+            return Walk {
+                past: true,
+                touches: 0,
+                met: 0,
+            };
+        }
+        touches += m;
+        let list = list_in(words, keys, starts, k);
+        m = sift(
+            names,
+            list,
+            counts,
+            met,
+            m,
+            (x - k - 1) as u32,
+            least as u32,
+        );
         k += 1;
     }
     Walk {
