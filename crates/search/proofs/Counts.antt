@@ -7,7 +7,7 @@ use mathlib.Core.List.{List, [], _∷_, _++_, map}
 use Prim.Native.Nat.{ℕ, zero, suc, _+_, _-_, _/_, _%_, _≤_, _<_}
 use native.Mathlib.Numerals.{add-one}
 use native.Mathlib.Omega.{arith}
-use lib.ListN.{length, getD, take, drop, length-take, List·getD-eq-default}
+use lib.ListN.{length, getD, take, drop, replicate, length-take, length-replicate, getD-replicate, List·getD-eq-default}
 use lib.Seq.{take-suc, length-take-le}
 use lib.Dec.{eqb, ltb, leb}
 use borrow.Author.Tests.{eq-eqb, ne-eqb, lt-ltb, le-ltb, le-leb, lt-leb, leb-true, ltb-true}
@@ -15,6 +15,7 @@ use Rattle.laws.specs.Lists.{member, tabulate, sumOf, countOf}
 use Rattle.laws.specs.Below.{sumBelow, countBelow}
 use Rattle.laws.proofs.Lists.{count-le, length-tabulate, getD-tabulate, tabulate-ext}
 use Rattle.laws.proofs.Below.{sum-below-ext, sum-below-step, sum-below-up}
+use Rattle.laws.proofs.Tables.{table-of}
 use Rattle.laws.proofs.Tests.{same-test, and-parts}
 use Rattle.laws.proofs.Order.{le-or-lt}
 use Rattle.index.specs.Good.{mostNames}
@@ -277,3 +278,6 @@ later-up ns ls t d e = sum-below-up d e (λ (f : ℕ). countBelow mostNames (rem
 pub later-nil : (ns : List ℕ) (ls : List (List ℕ)) (t : ℕ) → laterTouches ns ls t 0 ≡ 0
 unfolding laterTouches sumBelow
 later-nil ns ls t = refl
+
+pub zeros : replicate {A = ℕ} mostNames 0 ≡ tabulate (λ (i : ℕ). 0) mostNames
+zeros = table-of (replicate mostNames 0) mostNames (λ (i : ℕ). 0) (length-replicate {A = ℕ} mostNames 0) (λ i h. getD-replicate mostNames i 0 0 h)

@@ -6,4 +6,5 @@ pub mod Work
 pub mod Places
 pub mod Order
 pub mod Counts
+pub mod Size
 mod Cases

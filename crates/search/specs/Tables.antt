@@ -8,9 +8,13 @@ use lib.ListN.{length, getD, take, drop}
 use lib.Dec.{leb, ltb, eqb}
 use Rattle.laws.specs.Lists.{member, Distinct, Ascending, tabulate, sumOf}
 use Rattle.laws.specs.Below.{sumBelow, countBelow}
+use Rattle.laws.specs.Each.{Each}
+use Rattle.names.specs.Features.{mostFeatures}
+use Rattle.index.specs.Words.{nameCount, namesStart}
+use Rattle.index.specs.Built.{featureSpan}
 use Rattle.index.specs.Good.{mostNames}
 use Rattle.index.specs.Lists.{spanIn, listIn}
-use Rattle.search.specs.Method.{heldBy, signatures, remains, laterCount}
+use Rattle.search.specs.Method.{listsFor, heldBy, signatures, remains, laterCount, touchesAt}
 
 -- ---- the names, as their words
 
@@ -122,3 +126,26 @@ pub record Narrowed (ns : List ℕ) (ls : List (List ℕ)) (t budget : ℕ) (cou
   pub cost : past ≡ false → touches ≡ laterTouches ns ls t (laterCount ls t)
   pub table : past ≡ false → counts ≡ remainTable ns ls t (laterCount ls t)
   pub candidates : past ≡ false → MetBy counts met m
+
+-- after both: past exactly when the touches of both exceed the budget; otherwise the answers hold the counts of those left at their places
+pub record Walked (ns : List ℕ) (ls : List (List ℕ)) (t budget : ℕ) (before after : List ℕ) (past : Bool) (touches : ℕ) : Type 0 where
+  pub over : past ≡ ltb budget (postingsOf ls (signatures (length ls) t) + laterTouches ns ls t (laterCount ls t))
+  pub cost : past ≡ false → touches ≡ postingsOf ls (signatures (length ls) t) + laterTouches ns ls t (laterCount ls t)
+  pub answers : past ≡ false → after ≡ kept (remainTable ns ls t (laterCount ls t)) before
+
+-- the name words, as a part of the words
+unfoldable pub nameWords : List ℕ → List ℕ
+nameWords w = take (nameCount w) (drop namesStart w)
+
+-- what one size comes to: past exactly when its touches exceed the budget; otherwise the answers hold the counts of those left at their places
+pub record Sized (w : List ℕ) (y : ℕ) (features : List ℕ) (t budget : ℕ) (before after : List ℕ) (past : Bool) (touches : ℕ) : Type 0 where
+  pub over : past ≡ ltb budget (touchesAt w y (listsFor w y features) t)
+  pub cost : past ≡ false → touches ≡ touchesAt w y (listsFor w y features) t
+  pub answers : past ≡ false → after ≡ kept (remainTable (nameWords w) (listsFor w y features) t (laterCount (listsFor w y features) t)) before
+
+-- the features as the code has them: ascending, some and not too many, each below the span
+pub record Asked (features : List ℕ) : Type 0 where
+  pub some : 1 ≤ length features
+  pub few : length features ≤ mostFeatures
+  pub rising : Ascending features
+  pub small : Each (λ (f : ℕ). f < featureSpan) features

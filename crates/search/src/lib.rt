@@ -6,11 +6,12 @@ ghost use lib.ListN.{length, getD, take, drop};
 ghost use lib.Dec.{eqb, leb};
 ghost use mathlib.Core.Bool.{cond};
 ghost use Rattle.laws.specs.Lists.{Ascending, member, tabulate};
+ghost use Rattle.laws.specs.Sort.{sortOf};
 ghost use Rattle.laws.specs.Below.{countBelow};
 ghost use Rattle.names.specs.Features.{mostFeatures};
 ghost use Rattle.index.specs.Good.{Good, mostNames};
 ghost use Rattle.search.specs.Method.{namesOf, sizesEnd};
-ghost use Rattle.search.specs.Tables.{Names, Named, MetBy, tallied, tested, kept, startOf, smallKey, cutAt, cutLists, Readable, remainTable, Gathered, Narrowed};
+ghost use Rattle.search.specs.Tables.{Names, Named, MetBy, tallied, tested, kept, startOf, smallKey, cutAt, cutLists, Readable, remainTable, Gathered, Narrowed, nameWords, Asked, Walked, Sized};
 
 // What a search answers. specs/Answers.antt sets out the number and the values of each case.
 pub enum Answer {
@@ -132,7 +133,7 @@ fn keep(counts: &[u32], met: &[usize], m: usize, answers: &mut [u32])
 
 // Where the features' lists at a size start, and the key of each: its length × 256 + its place among the features.
 fn find_lists(words: &[u32], features: &[u64], size: u32, starts: &mut [usize], keys: &mut [u64])
-    requires { ⌜ Good (now words) × (length (now features) ≤ mostFeatures) × (length (now starts) ≡ mostFeatures) × (length (now keys) ≡ mostFeatures) ⌝ }
+    requires { ⌜ Good (now words) × (length (now features) ≤ mostFeatures) × (length (now starts) ≡ mostFeatures) × (length (now keys) ≡ length (now features)) ⌝ }
     ensures { λ r. ⌜ (now (starts .exit) ≡ tabulate (startOf (now (words .entry)) size (now (features .entry))) (length (now (features .entry))) ++ drop (length (now (features .entry))) (now (starts .entry))) × (now (keys .exit) ≡ tabulate (smallKey (now (words .entry)) size (now (features .entry))) (length (now (features .entry))) ++ drop (length (now (features .entry))) (now (keys .entry))) ⌝ }
 {
     let mut j = 0;
@@ -248,5 +249,82 @@ fn narrow(
         past: false,
         touches,
         met: m,
+    }
+}
+
+// ---- one size
+
+// What a size has come to: past the budget, or so many touches.
+struct Spent {
+    past: bool,
+    touches: usize,
+}
+
+// Where the features' lists at a size start, and their keys in order.
+fn order_lists(words: &[u32], features: &[u64], size: u32, starts: &mut [usize], keys: &mut [u64])
+    requires { ⌜ Good (now words) × (length (now features) ≤ mostFeatures) × (length (now starts) ≡ mostFeatures) × (length (now keys) ≡ length (now features)) ⌝ }
+    ensures { λ r. ⌜ (now (keys .exit) ≡ sortOf (tabulate (smallKey (now (words .entry)) size (now (features .entry))) (length (now (features .entry))))) × ((j : ℕ) → j < length (now (features .entry)) → getD (now (starts .exit)) j 0 ≡ startOf (now (words .entry)) size (now (features .entry)) j) ⌝ }
+{
+    let x = features.len();
+    let mut spare = [0u64; 66];
+    find_lists(words, features, size, starts, keys);
+    sorting::sort(keys, &mut spare[..x]);
+}
+
+// The two phases over lists in order, and what is left kept among the answers.
+fn walk_lists(
+    words: &[u32],
+    names: &[u32],
+    keys: &[u64],
+    starts: &[usize],
+    least: usize,
+    budget: usize,
+    answers: &mut [u32],
+) -> Spent
+    requires { ⌜ Names (now names) × Ascending (now names) × Readable (now words) (now names) (now keys) (now starts) × (length (now keys) ≤ mostFeatures) × (1 ≤ least) × (least ≤ length (now keys)) × (length (now answers) ≡ mostNames) ⌝ }
+    ensures { λ r. ⌜ Walked (now (names .entry)) (cutLists (now (words .entry)) (now (keys .entry)) (now (starts .entry))) least budget (now (answers .entry)) (now (answers .exit)) (r .past) (r .touches) ⌝ }
+{
+    let mut counts = [0u32; 256];
+    let mut met = [0usize; 256];
+    let first = gather(
+        words,
+        names,
+        keys,
+        starts,
+        keys.len() - least + 1,
+        budget,
+        &mut counts,
+        &mut met,
+    );
+    if first.past {
+        return Spent {
+            past: true,
+            touches: 0,
+        };
+    }
+    let touches = first.touches;
+    let already = first.met;
+    let then = narrow(
+        words,
+        names,
+        keys,
+        starts,
+        least,
+        budget - touches,
+        &mut counts,
+        &mut met,
+        already,
+    );
+    if then.past {
+        return Spent {
+            past: true,
+            touches: 0,
+        };
+    }
+    let m = then.met;
+    keep(&counts, &met, m, answers);
+    Spent {
+        past: false,
+        touches: touches + then.touches,
     }
 }

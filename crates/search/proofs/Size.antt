@@ -1,0 +1,235 @@
+-- One size, as the code has it, is one size of the method: the lists cut out of the words, the names' words, and the touches. Cited by the
+-- proof of `one_size`.
+-- Assumes nothing.
+use mathlib.Core.Path.{_≡_, refl, sym, ap, ap₂, _∙_}
+use mathlib.Core.Logic.{⊎-elim}
+use mathlib.Core.Bool.{Bool, true, false, cond, _&&_}
+use mathlib.Core.List.{List, [], _∷_, _++_}
+use Prim.Native.Nat.{ℕ, zero, suc, _+_, _-_, _*_, _/_, _%_, _≤_, _<_}
+use native.Mathlib.Omega.{arith}
+use lib.ListN.{length, getD, take, drop, length-drop, take-append-drop}
+use lib.Seq.{ext-getD, length-take-le, getD-take, getD-drop}
+use lib.Dec.{eqb, ltb, leb}
+use borrow.Author.Tests.{lt-ltb, le-ltb, ltb-true, leb-true, eq-eqb, eqb-true}
+use Rattle.laws.specs.Lists.{member, Ascending, tabulate, countOf}
+use Rattle.laws.specs.Below.{sumBelow, countBelow}
+use Rattle.laws.specs.Each.{Each}
+use Rattle.laws.specs.Sort.{sortOf}
+use Rattle.laws.proofs.Lists.{length-tabulate, getD-tabulate, count-append}
+use Rattle.laws.proofs.Members.{member-head, member-tail}
+use Rattle.laws.proofs.Below.{sum-below-ext, sum-below-step, count-below-most}
+use Rattle.laws.proofs.Tests.{same-test, and-parts}
+use Rattle.laws.proofs.Below.{and-both}
+use Rattle.laws.proofs.Order.{le-or-lt}
+use Rattle.laws.proofs.Sort.{ascending-sorted, ascending-distinct, sort-sorted, ascending-of}
+use Rattle.index.specs.Words.{nameCount, nameWord, nameId, nameSize, namesStart}
+use Rattle.index.specs.Good.{Good, mostNames}
+use Rattle.index.specs.Part.{Span, cut}
+use Rattle.index.specs.Lists.{listIn, spanIn}
+use Rattle.index.proofs.Laws.{good-names-most, good-within, good-ids, good-named, good-ids-apart, good-ascending, span-words}
+use Rattle.index.proofs.Spans.{span-within, span-count}
+use Rattle.search.specs.Method.{listsFor, heldBy, signatures, signaturePostings, remains, remaining, laterCount, touchesAt}
+use Rattle.search.specs.Tables.{idAt, Names, Named, startOf, smallKey, cutAt, cutLists, Readable, remainsAt, laterTouches, nameWords, Asked, postingsOf}
+use Rattle.search.proofs.Laws.{Query, length-lists, held-features}
+use Rattle.search.proofs.Counts.{length-cut, getD-cut}
+use Rattle.search.proofs.Work.{list-length}
+use Rattle.search.proofs.Order.{smallKeys, length-small, kth-key}
+
+-- ---- the name words
+
+module _ (w : List ℕ) (good : Good w) where
+  pub length-names : length (nameWords w) ≡ nameCount w
+  unfolding nameWords
+  length-names =
+      let h = good-within w good in
+      let d = length-drop namesStart w in
+      length-take-le (nameCount w) (drop namesStart w) (omega arith)
+
+  pub id-at : (i : ℕ) → i < nameCount w → idAt (nameWords w) i ≡ nameId w i
+  unfolding nameWords nameId nameWord
+  id-at i h = ap (λ (x : ℕ). x / 256) (getD-take (nameCount w) (drop namesStart w) i 0 h ∙ getD-drop namesStart w i 0)
+
+  pub names-fine : Names (nameWords w)
+  names-fine =
+      record {
+        few = rw length-names (good-names-most w good);
+        rising = λ i j l h.
+            let k : j < nameCount w = rw length-names at h in
+            let r = good-ids w good i j l k in
+            let a = id-at i (omega arith) in
+            let b = id-at j k in
+            omega arith;
+      }
+
+  pub names-rise : Ascending (nameWords w)
+  names-rise =
+      ascending-of (nameWords w)
+      (λ i h. let r = names-fine .rising i (i + 1) (omega arith) h in omega arith)
+
+-- ---- the features
+
+pub asked-query : (f : List ℕ) → Asked f → Query f
+asked-query f a = record { some = a .some; distinct = ascending-distinct f (a .rising); small = a .small }
+
+pub asked-sorted : (f : List ℕ) → Asked f → sortOf f ≡ f
+asked-sorted f a = sort-sorted f (ascending-sorted f (a .rising))
+
+-- ---- the lists
+
+module _ (w : List ℕ) (good : Good w) (y : ℕ) (f : List ℕ) (a : Asked f) (keys starts : List ℕ)
+    (in-order : keys ≡ sortOf (tabulate (smallKey w y f) (length f)))
+    (begin : (j : ℕ) → j < length f → getD starts j 0 ≡ startOf w y f j) (room : length f ≤ length starts) where
+  few-enough : length f ≤ 255
+  few-enough = let h = a .few in omega arith
+
+  -- the keys are the method's small keys
+  keys-small : keys ≡ smallKeys w y f (asked-query f a) few-enough
+  keys-small = in-order ∙ ap (λ (g : List ℕ). sortOf (tabulate (smallKey w y g) (length f))) (sym (asked-sorted f a))
+
+  pub length-keys : length keys ≡ length f
+  length-keys = ap length keys-small ∙ length-small w y f (asked-query f a) few-enough
+
+  -- the k-th key, with the features as they stand
+  pub kth : (k : ℕ) → k < length f
+      → (getD keys k 0 % 256 < length f)
+      × (getD (listsFor w y f) k [] ≡ listIn w y (getD f (getD keys k 0 % 256) 0))
+      × (getD keys k 0 / 256 ≡ length (listIn w y (getD f (getD keys k 0 % 256) 0)))
+  kth k h =
+      let e = kth-key w y f (asked-query f a) few-enough k h in
+      let q = asked-sorted f a in
+      let s = keys-small in
+      let n : getD keys k 0 ≡ getD (smallKeys w y f (asked-query f a) few-enough) k 0 = ap (λ (l : List ℕ). getD l k 0) s in (
+        rw n (e .0),
+        rw n (e .1 ∙ ap (λ (l : List ℕ). listIn w y (getD l (getD (smallKeys w y f (asked-query f a) few-enough) k 0 % 256) 0)) q),
+        rw n (e .2 ∙ ap (λ (l : List ℕ). length (listIn w y (getD l (getD (smallKeys w y f (asked-query f a) few-enough) k 0 % 256) 0))) q),
+      )
+
+  -- what is cut out of the words is the list
+  pub cut-list : (k : ℕ) → k < length f → cutAt w keys starts k ≡ listIn w y (getD f (getD keys k 0 % 256) 0)
+  unfolding cutAt startOf
+  cut-list k h =
+      let e = kth k h in
+      let g : ℕ = getD f (getD keys k 0 % 256) 0 in
+      let n : getD keys k 0 / 256 ≡ spanIn w y g .count = e .2 ∙ sym (span-count w good y g) in
+      ap₂ (λ (c s : ℕ). take c (drop s w)) n (begin (getD keys k 0 % 256) (e .0)) ∙ span-words w y g
+
+  pub cut-lists : cutLists w keys starts ≡ listsFor w y f
+  cut-lists =
+      let n = length-cut w keys starts in
+      let m = length-lists w y f in
+      let l = length-keys in
+      ext-getD [] (cutLists w keys starts) (listsFor w y f) (n ∙ l ∙ sym m)
+      (λ k h.
+      let q : k < length f = rw (n ∙ l) at h in
+      getD-cut w keys starts k (rw l q) ∙ cut-list k q ∙ sym (kth k q .1))
+
+  pub cut-readable : Readable w (nameWords w) keys starts
+  cut-readable =
+      record {
+        place = λ k h. let q = kth k (rw length-keys at h) .0 in omega arith;
+        short = λ k h.
+            let q = kth k (rw length-keys at h) .2 in
+            let b = list-length w good y (getD f (getD keys k 0 % 256) 0) in
+            let m = count-below-most (nameCount w) (λ (i : ℕ). eqb (nameSize w i) y) in
+            let o = good-names-most w good in
+            omega arith;
+        within = λ k h.
+            let e = kth k (rw length-keys at h) in
+            let g : ℕ = getD f (getD keys k 0 % 256) 0 in
+            let b = begin (getD keys k 0 % 256) (e .0) in
+            let s = span-within w good y g in
+            let n = span-count w good y g in
+            let c = e .2 in
+            let d : startOf w y f (getD keys k 0 % 256) ≡ spanIn w y g .start = unfold startOf in refl in
+            omega arith;
+        ascending = λ k h. rw (cut-list k (rw length-keys at h)) (good-ascending w good y (getD f (getD keys k 0 % 256) 0));
+        named = λ k h id m.
+            let e = cut-list k (rw length-keys at h) in
+            let p = good-named w good y (getD f (getD keys k 0 % 256) 0) id (rw e at m) in
+            (p .0, rw (length-names w good) (p .1), id-at w good (p .0) (p .1) ∙ p .2);
+      }
+
+-- ---- the touches
+
+-- where some pass, one does
+count-some : (t : ℕ → Bool) (l : List ℕ) → 1 ≤ countOf t l → (x : ℕ) × (member x l ≡ true) × (t x ≡ true)
+unfolding countOf
+count-some t [] h = absurd (omega arith)
+count-some t (x ∷ l) h = by-test (t x) refl h (count-some t l)
+  where
+    by-test : (b : Bool) → t x ≡ b → 1 ≤ cond b 1 0 + countOf t l → (1 ≤ countOf t l → (z : ℕ) × (member z l ≡ true) × (t z ≡ true))
+        → (z : ℕ) × (member z (x ∷ l) ≡ true) × (t z ≡ true)
+    by-test true e k r = (x, member-head x l, e)
+    by-test false e k r = let p = r (omega arith) in (p .0, member-tail x (p .0) l (p .1), p .2)
+
+count-take : {A : Type 0} (t : A → Bool) (n : ℕ) (l : List A) → countOf t (take n l) ≤ countOf t l
+count-take t n l =
+    let e = count-append t (take n l) (drop n l) in
+    let f = ap (countOf t) (take-append-drop n l) in
+    omega arith
+
+held-take : (ls : List (List ℕ)) (n id : ℕ) → heldBy (take n ls) id ≤ heldBy ls id
+unfolding heldBy
+held-take ls n id = count-take (λ (l : List ℕ). member id l) n ls
+
+-- who remains was met
+remains-met : (ls : List (List ℕ)) (t d id : ℕ) → remains ls t d id ≡ true → 1 ≤ heldBy ls id
+unfolding remains
+remains-met ls t zero id e =
+    let a = leb-true 1 (heldBy (take (signatures (length ls) t) ls) id) e in
+    let b = held-take ls (signatures (length ls) t) id in
+    omega arith
+remains-met ls t (suc d) id e =
+    remains-met ls t d id (and-parts (remains ls t d id) (leb t (heldBy (take (signatures (length ls) t + suc d) ls) id + (length ls - (signatures (length ls) t + suc d)))) e .0)
+
+-- the names below an end that is not short of them
+count-cut : (n d : ℕ) (u : ℕ → Bool) → countBelow (n + d) (λ (i : ℕ). ltb i n && u i) ≡ countBelow n u
+count-cut n zero u =
+    ap (λ (m : ℕ). countBelow m (λ (i : ℕ). ltb i n && u i)) (let e : n + 0 ≡ n = omega arith in e)
+    ∙ sum-below-ext n (λ (i : ℕ). cond (ltb i n && u i) 1 0) (λ (i : ℕ). cond (u i) 1 0) (λ i h. rw (lt-ltb i n h))
+count-cut n (suc d) u =
+    let e : n + suc d ≡ (n + d) + 1 = omega arith in
+    let r = count-cut n d u in
+    let s = sum-below-step (λ (i : ℕ). cond (ltb i n && u i) 1 0) (n + d) in
+    let f = ap (λ (m : ℕ). countBelow m (λ (i : ℕ). ltb i n && u i)) e in
+    let z : _≡_ {A = ℕ} (cond (ltb (n + d) n && u (n + d)) 1 0) 0 = rw (le-ltb (n + d) n (omega arith)) in
+    omega arith
+
+module _ (w : List ℕ) (good : Good w) (y : ℕ) (f : List ℕ) (a : Asked f) (t : ℕ) where
+  -- a name that remains has the size
+  remains-size : (d i : ℕ) → i < nameCount w → remains (listsFor w y f) t d (nameId w i) ≡ true → nameSize w i ≡ y
+  remains-size d i h e =
+      let q = asked-query f a in
+      let m = remains-met (listsFor w y f) t d (nameId w i) e in
+      let c = held-features w y f (nameId w i) (q .small) in
+      let p = count-some (λ (g : ℕ). member (nameId w i) (listIn w y g)) f (omega arith) in
+      let n = good-named w good y (p .0) (nameId w i) (p .2) in
+      let s = good-ids-apart w good (n .0) i (n .1) h (n .2) in
+      ap (nameSize w) (sym s) ∙ n .3
+
+  -- so those of the size that remain are all that remain
+  pub remaining-at : (d : ℕ) → remaining w y (listsFor w y f) t d ≡ countBelow mostNames (remainsAt (nameWords w) (listsFor w y f) t d)
+  unfolding remaining remainsAt
+  remaining-at d =
+      let m = good-names-most w good in
+      let e : nameCount w + (mostNames - nameCount w) ≡ mostNames = omega arith in
+      let u : ℕ → Bool = λ (i : ℕ). remains (listsFor w y f) t d (idAt (nameWords w) i) in
+      sum-below-ext (nameCount w) (λ (i : ℕ). cond (eqb (nameSize w i) y && remains (listsFor w y f) t d (nameId w i)) 1 0) (λ (i : ℕ). cond (u i) 1 0)
+      (λ i h.
+      ap (λ (b : Bool). cond b 1 0)
+      (same-test (eqb (nameSize w i) y && remains (listsFor w y f) t d (nameId w i)) (u i)
+      (λ q. ap (remains (listsFor w y f) t d) (id-at w good i h) ∙ and-parts (eqb (nameSize w i) y) (remains (listsFor w y f) t d (nameId w i)) q .1)
+      (λ q.
+      let r = ap (remains (listsFor w y f) t d) (sym (id-at w good i h)) ∙ q in
+      and-both (eqb (nameSize w i) y) (remains (listsFor w y f) t d (nameId w i)) (eq-eqb (nameSize w i) y (remains-size d i h r)) r)))
+      ∙ sym (count-cut (nameCount w) (mostNames - nameCount w) u)
+      ∙ ap₂ (λ (n l : ℕ). countBelow n (λ (i : ℕ). ltb i l && u i)) e (sym (length-names w good))
+
+  -- the touches of the size, as the code counts them
+  pub touches-at : touchesAt w y (listsFor w y f) t
+      ≡ postingsOf (listsFor w y f) (signatures (length (listsFor w y f)) t)
+      + laterTouches (nameWords w) (listsFor w y f) t (laterCount (listsFor w y f) t)
+  unfolding touchesAt signaturePostings laterTouches
+  touches-at =
+      ap (λ (n : ℕ). postingsOf (listsFor w y f) (signatures (length (listsFor w y f)) t) + n)
+      (sum-below-ext (laterCount (listsFor w y f) t) (remaining w y (listsFor w y f) t) (λ (e : ℕ). countBelow mostNames (remainsAt (nameWords w) (listsFor w y f) t e)) (λ d h. remaining-at d))

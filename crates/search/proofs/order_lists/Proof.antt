@@ -1,0 +1,59 @@
+-- `order_lists` meets its contract: the keys are sorted.
+use mathlib.Core.Path.{_≡_, refl, sym, ap, _∙_}
+use mathlib.Core.List.{List, _++_, append-nil}
+use Prim.Native.Nat.{ℕ, _+_, _≤_, _<_}
+use native.Mathlib.Omega.{arith}
+use borrow.Author.Needs.{needs}
+use lib.ListN.{length, getD, drop, replicate, drop-of-length-le, List·getD-append}
+use lib.Seq.{length-take-le}
+use Rattle.laws.specs.Lists.{tabulate}
+use Rattle.laws.specs.Sort.{sortOf}
+use Rattle.laws.proofs.Lists.{length-tabulate, getD-tabulate}
+use Rattle.search.specs.Tables.{startOf, smallKey}
+use Rattle.search.proofs.order_lists.Statement.{statement}
+use Rattle.search.proofs.order_lists.Tie as tie
+
+find-lists-requires : tie.Need-find-lists-requires
+find-lists-requires c κs = search needs
+
+array-borrow-prefix-spare : tie.Need-array-borrow-prefix-spare
+array-borrow-prefix-spare c = search needs
+
+slice-aggregate-sort : tie.Need-slice-aggregate-sort
+slice-aggregate-sort c = sym (length-take-le {A = ℕ} (length (c .before .before .before .before .before .before .before .before .before .before .before .before .before .args .features .now)) (replicate 66 0) (c .before .before .before .before .before .before .before .before .before .before .before .before .before .pre .1))
+
+sort-requires : tie.Need-sort-requires
+sort-requires c κs = length-take-le {A = ℕ} (length (c .before .before .before .before .before .before .before .before .before .before .before .before .before .args .features .now)) (replicate 66 0) (c .before .before .before .before .before .before .before .before .before .before .before .before .before .pre .1) ∙ sym (c .before .before .before .before .before .before .find-lists .kept .1 .1 .1 .1 .0 ∙ c .before .before .before .before .before .before .before .before .before .before .before .before .before .pre .3)
+
+same-length : tie.Need-same-length
+same-length c = search needs
+
+same-length-2 : tie.Need-same-length-2
+same-length-2 c = search needs
+
+returns : tie.Need-returns
+returns c =
+    let b = c .before .before .before .before .before .before .before .before .before .before .before .before .before .before .before .before .before in
+    let f = c .before .before .before .before .before .before .before .before .before .before .find-lists .ensures in
+    let x = length (b .args .features .now) in
+    let ke = smallKey (b .args .words .now) (b .args .size) (b .args .features .now) in
+    let st = startOf (b .args .words .now) (b .args .size) (b .args .features .now) in
+    let none : drop x (b .args .keys .now) ≡ _ = drop-of-length-le (b .args .keys .now) {i = x} (let q = b .pre .3 in omega arith) in (
+      c .before .before .before .sort .ensures ∙ ap sortOf (f .1 ∙ ap (λ (l : List ℕ). tabulate ke x ++ l) none ∙ append-nil (tabulate ke x)),
+      λ j h.
+          ap (λ (l : List ℕ). getD l j 0) (f .0)
+          ∙ List·getD-append (tabulate st x) (drop x (b .args .starts .now)) 0 j (rw (length-tabulate st x) h)
+          ∙ getD-tabulate st x j 0 h,
+    )
+
+pub order-lists-spec : {M : Type 1} → statement M
+order-lists-spec =
+    tie.close
+    (tie.spec
+    find-lists-requires
+    array-borrow-prefix-spare
+    slice-aggregate-sort
+    sort-requires
+    same-length
+    same-length-2
+    returns)
