@@ -328,3 +328,23 @@ fn walk_lists(
         touches: touches + then.touches,
     }
 }
+
+// One size: its lists in order, then the two phases.
+fn one_size(
+    words: &[u32],
+    names: &[u32],
+    features: &[u64],
+    size: u32,
+    least: usize,
+    budget: usize,
+    answers: &mut [u32],
+) -> Spent
+    requires { ⌜ Good (now words) × (now names ≡ nameWords (now words)) × Asked (now features) × (1 ≤ least) × (least ≤ length (now features)) × (length (now answers) ≡ mostNames) ⌝ }
+    ensures { λ r. ⌜ Sized (now (words .entry)) size (now (features .entry)) least budget (now (answers .entry)) (now (answers .exit)) (r .past) (r .touches) ⌝ }
+{
+    let x = features.len();
+    let mut starts = [0usize; 66];
+    let mut keys = [0u64; 66];
+    order_lists(words, features, size, &mut starts, &mut keys[..x]);
+    walk_lists(words, names, &keys[..x], &starts, least, budget, answers)
+}

@@ -1,0 +1,119 @@
+-- `one_size` meets its contract: the lists in order are the method's, and so are the touches of the two phases.
+use mathlib.Core.Path.{_≡_, refl, sym, ap, ap₂, subst, _∙_}
+use mathlib.Core.Bool.{false}
+use mathlib.Core.List.{List, _++_}
+use Prim.Native.Nat.{ℕ, _+_, _≤_, _<_}
+use native.Mathlib.Omega.{arith}
+use borrow.Author.Needs.{needs}
+use lib.Dec.{ltb}
+use lib.ListN.{length, getD, take, drop, replicate, length-append}
+use lib.Seq.{length-take-le, take-at}
+use Rattle.laws.specs.Lists.{Ascending}
+use Rattle.index.specs.Good.{mostNames}
+use Rattle.search.specs.Method.{listsFor, signatures, laterCount, touchesAt}
+use Rattle.search.specs.Tables.{Names, Readable, cutLists, nameWords, postingsOf, laterTouches, remainTable, kept, Asked, Walked, Sized}
+use Rattle.search.proofs.Size.{names-fine, names-rise, length-keys, cut-lists, cut-readable, touches-at}
+use Rattle.search.proofs.one_size.Statement.{statement}
+use Rattle.search.proofs.one_size.Tie as tie
+
+slice-aggregate-order-lists : tie.Need-slice-aggregate-order-lists
+slice-aggregate-order-lists c = search needs
+
+array-borrow-prefix-keys : tie.Need-array-borrow-prefix-keys
+array-borrow-prefix-keys c = search needs
+
+slice-aggregate-order-lists-2 : tie.Need-slice-aggregate-order-lists-2
+slice-aggregate-order-lists-2 c = sym (length-take-le {A = ℕ} (length (c .before .before .before .before .before .before .args .features .now)) (replicate 66 0) (c .before .before .before .before .before .before .pre .2 .few))
+
+order-lists-requires : tie.Need-order-lists-requires
+order-lists-requires c κs = (c .before .before .before .before .before .before .pre .0, c .before .before .before .before .before .before .pre .2 .few, refl, (length-take-le {A = ℕ} (length (c .before .before .before .before .before .before .args .features .now)) (replicate 66 0) (c .before .before .before .before .before .before .pre .2 .few)))
+
+array-share-prefix-keys : tie.Need-array-share-prefix-keys
+array-share-prefix-keys c =
+    let b = c .before .before .before .before .before .before .before .before .before in
+    let f = b .args .features .now in
+    let o = c .before .before .order-lists in
+    let keys = o .last .1 .1 .1 .1 .0 in
+    let n : length keys ≡ length f = o .kept .1 .1 .1 .1 .0 ∙ (length-take-le {A = ℕ} (length (c .before .before .before .before .before .before .before .before .before .args .features .now)) (replicate 66 0) (c .before .before .before .before .before .before .before .before .before .pre .2 .few)) in
+    let front : take (length f) (keys ++ drop (length f) (replicate 66 0)) ≡ keys = take-at keys (drop (length f) (replicate 66 0)) (length f) n in
+    let m = length-append keys (drop (length f) (replicate 66 0)) in
+    omega arith
+
+slice-aggregate-walk-lists : tie.Need-slice-aggregate-walk-lists
+slice-aggregate-walk-lists c =
+    let b = c .before .before .before .before .before .before .before .before .before .before in
+    let f = b .args .features .now in
+    let o = c .before .before .before .order-lists in
+    let keys = o .last .1 .1 .1 .1 .0 in
+    let n : length keys ≡ length f = o .kept .1 .1 .1 .1 .0 ∙ (length-take-le {A = ℕ} (length (c .before .before .before .before .before .before .before .before .before .before .args .features .now)) (replicate 66 0) (c .before .before .before .before .before .before .before .before .before .before .pre .2 .few)) in
+    let front : take (length f) (keys ++ drop (length f) (replicate 66 0)) ≡ keys = take-at keys (drop (length f) (replicate 66 0)) (length f) n in
+    sym (ap length front ∙ n)
+
+slice-aggregate-walk-lists-2 : tie.Need-slice-aggregate-walk-lists-2
+slice-aggregate-walk-lists-2 c = search needs
+
+walk-lists-requires : tie.Need-walk-lists-requires
+walk-lists-requires c κs =
+    let b = c .before .before .before .before .before .before .before .before .before .before .before .before in
+    let f = b .args .features .now in
+    let o = c .before .before .before .before .before .order-lists in
+    let keys = o .last .1 .1 .1 .1 .0 in
+    let n : length keys ≡ length f = o .kept .1 .1 .1 .1 .0 ∙ (length-take-le {A = ℕ} (length (c .before .before .before .before .before .before .before .before .before .before .before .before .args .features .now)) (replicate 66 0) (c .before .before .before .before .before .before .before .before .before .before .before .before .pre .2 .few)) in
+    let front : take (length f) (keys ++ drop (length f) (replicate 66 0)) ≡ keys = take-at keys (drop (length f) (replicate 66 0)) (length f) n in
+    let starts = o .last .1 .1 .1 .0 in
+    let room : length f ≤ length starts = (let q = o .kept .1 .1 .1 .0 in let p = b .pre .2 .few in omega arith) in
+    let w = b .args .words .now in
+    let y = b .args .size in
+    let e : b .args .names .now ≡ nameWords w = b .pre .1 in
+    let l = length-keys w (b .pre .0) y f (b .pre .2) keys starts (o .ensures .0) (o .ensures .1) room in (
+      subst Names (sym e) (names-fine w (b .pre .0)),
+      subst Ascending (sym e) (names-rise w (b .pre .0)),
+      rw (front, e) (cut-readable w (b .pre .0) y f (b .pre .2) keys starts (o .ensures .0) (o .ensures .1) room),
+      rw front (let q = b .pre .2 .few in omega arith),
+      b .pre .3,
+      rw front (let q = b .pre .4 in omega arith),
+      b .pre .5,
+    )
+
+same-length : tie.Need-same-length
+same-length c = search needs
+
+returns : tie.Need-returns
+returns c =
+    let b = c .before .before .before .before .before .before .before .before .before .before .before .before .before .before .before in
+    let f = b .args .features .now in
+    let o = c .before .before .before .before .before .before .before .before .order-lists in
+    let keys = o .last .1 .1 .1 .1 .0 in
+    let n : length keys ≡ length f = o .kept .1 .1 .1 .1 .0 ∙ (length-take-le {A = ℕ} (length (c .before .before .before .before .before .before .before .before .before .before .before .before .before .before .before .args .features .now)) (replicate 66 0) (c .before .before .before .before .before .before .before .before .before .before .before .before .before .before .before .pre .2 .few)) in
+    let front : take (length f) (keys ++ drop (length f) (replicate 66 0)) ≡ keys = take-at keys (drop (length f) (replicate 66 0)) (length f) n in
+    let starts = o .last .1 .1 .1 .0 in
+    let room : length f ≤ length starts = (let q = o .kept .1 .1 .1 .0 in let p = b .pre .2 .few in omega arith) in
+    let w = b .args .words .now in
+    let y = b .args .size in
+    let e : b .args .names .now ≡ nameWords w = b .pre .1 in
+    let ls : cutLists w (take (length f) (keys ++ drop (length f) (replicate 66 0))) starts ≡ listsFor w y f = ap (λ (r : List ℕ). cutLists w r starts) front ∙ cut-lists w (b .pre .0) y f (b .pre .2) keys starts (o .ensures .0) (o .ensures .1) room in
+    let v = c .before .before .walk-lists .ensures in
+    let t = touches-at w (b .pre .0) y f (b .pre .2) (b .args .least) in
+    let h : postingsOf (cutLists w (take (length f) (keys ++ drop (length f) (replicate 66 0))) starts) (signatures (length (cutLists w (take (length f) (keys ++ drop (length f) (replicate 66 0))) starts)) (b .args .least)) + laterTouches (b .args .names .now) (cutLists w (take (length f) (keys ++ drop (length f) (replicate 66 0))) starts) (b .args .least) (laterCount (cutLists w (take (length f) (keys ++ drop (length f) (replicate 66 0))) starts) (b .args .least)) ≡ touchesAt w y (listsFor w y f) (b .args .least) =
+    ap₂ (λ (r : List (List ℕ)) (m : List ℕ). postingsOf r (signatures (length r) (b .args .least)) + laterTouches m r (b .args .least) (laterCount r (b .args .least))) ls e ∙ sym t
+    in
+    record {
+      over = v .over ∙ ap (ltb (b .args .budget)) h;
+      cost = λ q. v .cost q ∙ h;
+      answers = λ q. v .answers q ∙ ap₂ (λ (r : List (List ℕ)) (m : List ℕ). kept (remainTable m r (b .args .least) (laterCount r (b .args .least))) (b .args .answers .now)) ls e;
+    }
+
+pub one-size-spec : {M : Type 1} → statement M
+one-size-spec =
+    tie.close
+    (tie.spec
+    slice-aggregate-order-lists
+    array-borrow-prefix-keys
+    slice-aggregate-order-lists-2
+    order-lists-requires
+    array-share-prefix-keys
+    slice-aggregate-walk-lists
+    slice-aggregate-walk-lists-2
+    walk-lists-requires
+    same-length
+    returns)
