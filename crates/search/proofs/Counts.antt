@@ -87,7 +87,7 @@ remains-after : (ls : List (List ℕ)) (t d id : ℕ)
 unfolding remains
 remains-after ls t d id = rw (add-one d)
 
-at-remains : (ns : List ℕ) (ls : List (List ℕ)) (t d i : ℕ) → remainsAt ns ls t d i ≡ true → (ltb i (length ns) ≡ true) × (remains ls t d (idAt ns i) ≡ true)
+pub at-remains : (ns : List ℕ) (ls : List (List ℕ)) (t d i : ℕ) → remainsAt ns ls t d i ≡ true → (ltb i (length ns) ≡ true) × (remains ls t d (idAt ns i) ≡ true)
 unfolding remainsAt
 at-remains ns ls t d i e = and-parts (ltb i (length ns)) (remains ls t d (idAt ns i)) e
 
@@ -106,7 +106,7 @@ at-gone ns ls t d i e = by-test (ltb i (length ns)) e
     by-test true q = remains-after ls t d (idAt ns i) ∙ (rw q)
     by-test false q = refl
 
-remain-value : (ns : List ℕ) (ls : List (List ℕ)) (t d i : ℕ) → i < mostNames
+pub remain-value : (ns : List ℕ) (ls : List (List ℕ)) (t d i : ℕ) → i < mostNames
     → getD (remainTable ns ls t d) i 0 ≡ cond (remainsAt ns ls t d i) (heldBy (take (signatures (length ls) t + d) ls) (idAt ns i)) 0
 unfolding remainTable
 remain-value ns ls t d i l =
@@ -281,3 +281,8 @@ later-nil ns ls t = refl
 
 pub zeros : replicate {A = ℕ} mostNames 0 ≡ tabulate (λ (i : ℕ). 0) mostNames
 zeros = table-of (replicate mostNames 0) mostNames (λ (i : ℕ). 0) (length-replicate {A = ℕ} mostNames 0) (λ i h. getD-replicate mostNames i 0 0 h)
+
+-- a name that does not remain at its place does not remain
+pub at-absent : (ns : List ℕ) (ls : List (List ℕ)) (t d i : ℕ) → ltb i (length ns) ≡ true → remainsAt ns ls t d i ≡ false → remains ls t d (idAt ns i) ≡ false
+unfolding remainsAt
+at-absent ns ls t d i b e = sym (ap (λ (x : Bool). x && remains ls t d (idAt ns i)) b) ∙ e

@@ -7,4 +7,5 @@ pub mod Places
 pub mod Order
 pub mod Counts
 pub mod Size
+pub mod Answering
 mod Cases

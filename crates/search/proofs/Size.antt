@@ -197,7 +197,7 @@ count-cut n (suc d) u =
 
 module _ (w : List ℕ) (good : Good w) (y : ℕ) (f : List ℕ) (a : Asked f) (t : ℕ) where
   -- a name that remains has the size
-  remains-size : (d i : ℕ) → i < nameCount w → remains (listsFor w y f) t d (nameId w i) ≡ true → nameSize w i ≡ y
+  pub remains-size : (d i : ℕ) → i < nameCount w → remains (listsFor w y f) t d (nameId w i) ≡ true → nameSize w i ≡ y
   remains-size d i h e =
       let q = asked-query f a in
       let m = remains-met (listsFor w y f) t d (nameId w i) e in

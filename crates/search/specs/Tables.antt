@@ -10,11 +10,11 @@ use Rattle.laws.specs.Lists.{member, Distinct, Ascending, tabulate, sumOf}
 use Rattle.laws.specs.Below.{sumBelow, countBelow}
 use Rattle.laws.specs.Each.{Each}
 use Rattle.names.specs.Features.{mostFeatures}
-use Rattle.index.specs.Words.{nameCount, namesStart}
+use Rattle.index.specs.Words.{nameCount, nameSize, namesStart}
 use Rattle.index.specs.Built.{featureSpan}
 use Rattle.index.specs.Good.{mostNames}
 use Rattle.index.specs.Lists.{spanIn, listIn}
-use Rattle.search.specs.Method.{listsFor, heldBy, signatures, remains, laterCount, touchesAt}
+use Rattle.search.specs.Method.{listsFor, heldBy, signatures, remains, laterCount, touchesAt, sharedWith, sizesEnd, touchesOfSize, touchesOf, listed}
 
 -- ---- the names, as their words
 
@@ -149,3 +149,25 @@ pub record Asked (features : List ℕ) : Type 0 where
   pub few : length features ≤ mostFeatures
   pub rising : Ascending features
   pub small : Each (λ (f : ℕ). f < featureSpan) features
+
+-- ---- the answers by place
+
+-- whether the name at place i is an answer of a size below y; never past the last name
+unfoldable pub answeredAt : List ℕ → ℕ → ℕ → ℕ → List ℕ → ℕ → ℕ → Bool
+answeredAt w m p q features y i = ltb i (nameCount w) && (ltb (nameSize w i) y && listed w m p q features i)
+
+-- the shared counts of the answers of the sizes below y; 0 of all others
+unfoldable pub answersTable : List ℕ → ℕ → ℕ → ℕ → List ℕ → ℕ → List ℕ
+answersTable w m p q features y = tabulate (λ (i : ℕ). cond (answeredAt w m p q features y i) (sharedWith w features i) 0) mostNames
+
+-- after size y: past exactly when its touches exceed the budget; otherwise the answers are those of the sizes up to y
+pub record Stepped (w : List ℕ) (m p q : ℕ) (features : List ℕ) (y budget : ℕ) (after : List ℕ) (past : Bool) (touches : ℕ) : Type 0 where
+  pub over : past ≡ ltb budget (touchesOfSize w m p q features y)
+  pub cost : past ≡ false → touches ≡ touchesOfSize w m p q features y
+  pub answers : past ≡ false → after ≡ answersTable w m p q features (y + 1)
+
+-- after all sizes
+pub record Covered (w : List ℕ) (m p q : ℕ) (features : List ℕ) (budget : ℕ) (after : List ℕ) (past : Bool) (touches : ℕ) : Type 0 where
+  pub over : past ≡ ltb budget (touchesOf w m p q features)
+  pub cost : past ≡ false → touches ≡ touchesOf w m p q features
+  pub answers : past ≡ false → after ≡ answersTable w m p q features sizesEnd
