@@ -6,13 +6,14 @@ use mathlib.Core.Bool.{Bool, true, false, cond, _&&_, true≢false, false≢true
 use mathlib.Core.List.{List, []}
 use Prim.Native.Nat.{ℕ, zero, suc, _+_, _-_, _≤_, _<_}
 use native.Mathlib.Omega.{arith}
-use lib.ListN.{length, getD, take}
+use lib.ListN.{length, getD, take, replicate, length-replicate, getD-replicate}
 use lib.Dec.{eqb, ltb, leb}
 use borrow.Author.Tests.{lt-ltb, le-ltb, ltb-true, ltb-false, eq-eqb, ne-eqb}
 use Rattle.laws.specs.Lists.{tabulate}
 use Rattle.laws.specs.Below.{sumBelow, countBelow}
 use Rattle.laws.proofs.Lists.{length-tabulate, getD-tabulate, tabulate-ext}
 use Rattle.laws.proofs.Below.{sum-below-step, and-false-left, and-false-right, count-below-more}
+use Rattle.laws.proofs.Tables.{table-of}
 use Rattle.laws.proofs.Tests.{and-parts, test-fails}
 use Rattle.laws.proofs.Order.{le-or-lt, eq-or-ne}
 use Rattle.likeness.specs.Sizes.{isSearched}
@@ -43,9 +44,9 @@ module _ (w : List ℕ) (good : Good w) (m p q : ℕ) (f : List ℕ) (a : Asked 
   answered-same y i n =
       ⊎-elim
       (λ (e : nameSize w i ≡ y).
-        ap (λ (b : Bool). ltb i (nameCount w) && (ltb (nameSize w i) (y + 1) && b)) (n e)
-        ∙ ap (λ (b : Bool). ltb i (nameCount w) && b) (and-false-right (ltb (nameSize w i) (y + 1)) false refl ∙ sym (and-false-right (ltb (nameSize w i) y) false refl))
-        ∙ ap (λ (b : Bool). ltb i (nameCount w) && (ltb (nameSize w i) y && b)) (sym (n e)))
+      ap (λ (b : Bool). ltb i (nameCount w) && (ltb (nameSize w i) (y + 1) && b)) (n e)
+      ∙ ap (λ (b : Bool). ltb i (nameCount w) && b) (and-false-right (ltb (nameSize w i) (y + 1)) false refl ∙ sym (and-false-right (ltb (nameSize w i) y) false refl))
+      ∙ ap (λ (b : Bool). ltb i (nameCount w) && (ltb (nameSize w i) y && b)) (sym (n e)))
       (λ (e : nameSize w i ≡ y → ⊥). ap (λ (b : Bool). ltb i (nameCount w) && (b && listed w m p q f i)) (same-below y (nameSize w i) e))
       (eq-or-ne (nameSize w i) y)
 
@@ -59,6 +60,7 @@ module _ (w : List ℕ) (good : Good w) (m p q : ℕ) (f : List ℕ) (a : Asked 
     where
       past-names : (y i : ℕ) → nameCount w ≤ i → answeredAt w m p q f y i ≡ false
       past-names y i h = unfold answeredAt in (and-false-left (ltb i (nameCount w)) (ltb (nameSize w i) y && listed w m p q f i) (le-ltb i (nameCount w) h))
+
       by-place : (y i : ℕ) → ((j : ℕ) → j < nameCount w → nameSize w j ≡ y → listed w m p q f j ≡ false) → (nameCount w ≤ i) ⊎ (i < nameCount w)
           → answeredAt w m p q f (y + 1) i ≡ answeredAt w m p q f y i
       by-place y i n c =
@@ -105,7 +107,7 @@ module _ (w : List ℕ) (good : Good w) (m p q : ℕ) (f : List ℕ) (a : Asked 
 
     at-place : (i : ℕ) → i < mostNames → (b : Bool) → remainsAt (nameWords w) ls t (laterCount ls t) i ≡ b
         → cond b (cond b (heldBy (take (signatures (length ls) t + laterCount ls t) ls) (idAt (nameWords w) i)) 0) (cond (answeredAt w m p q f y i) (sharedWith w f i) 0)
-            ≡ cond (answeredAt w m p q f (y + 1) i) (sharedWith w f i) 0
+        ≡ cond (answeredAt w m p q f (y + 1) i) (sharedWith w f i) 0
     at-place i h true e =
         let r = at-remains (nameWords w) ls t (laterCount ls t) i e in
         let k : i < nameCount w = (let u = ltb-true i (length (nameWords w)) (r .0) in let n = length-names w good in omega arith) in
@@ -116,17 +118,20 @@ module _ (w : List ℕ) (good : Good w) (m p q : ℕ) (f : List ℕ) (a : Asked 
       where
         answered-now : (i : ℕ) → i < nameCount w → nameSize w i ≡ y → listed w m p q f i ≡ true → answeredAt w m p q f (y + 1) i ≡ true
         answered-now i k s l = unfold answeredAt in (rw (lt-ltb i (nameCount w) k, lt-ltb (nameSize w i) (y + 1) (omega arith), l))
+
         shared-here : (i : ℕ) → nameSize w i ≡ y → sharedWith w f i ≡ heldBy ls (nameId w i)
         shared-here i s = unfold sharedWith in (ap (λ (z : ℕ). heldBy (listsFor w z f) (nameId w i)) s)
     at-place i h false e = ap (λ (b : Bool). cond b (sharedWith w f i) 0) (by-place (le-or-lt (nameCount w) i))
       where
         past-names : (y i : ℕ) → nameCount w ≤ i → answeredAt w m p q f y i ≡ false
         past-names y i h = unfold answeredAt in (and-false-left (ltb i (nameCount w)) (ltb (nameSize w i) y && listed w m p q f i) (le-ltb i (nameCount w) h))
+
         not-listed : i < nameCount w → nameSize w i ≡ y → listed w m p q f i ≡ false
         not-listed k s =
             listed-remains i s
             ∙ ap (remains ls t (laterCount ls t)) (sym (id-at w good i k))
             ∙ at-absent (nameWords w) ls t (laterCount ls t) i (lt-ltb i (length (nameWords w)) (rw (length-names w good) k)) e
+
         by-place : (nameCount w ≤ i) ⊎ (i < nameCount w) → answeredAt w m p q f y i ≡ answeredAt w m p q f (y + 1) i
         by-place c =
             ⊎-elim
@@ -142,11 +147,46 @@ module _ (w : List ℕ) (good : Good w) (m p q : ℕ) (f : List ℕ) (a : Asked 
         (λ (i : ℕ). cond (leb 1 (getD (remainTable (nameWords w) ls t (laterCount ls t)) i 0)) (getD (remainTable (nameWords w) ls t (laterCount ls t)) i 0) (getD (tabulate (λ (j : ℕ). cond (answeredAt w m p q f y j) (sharedWith w f j) 0) mostNames) i 0))
         (λ (i : ℕ). cond (answeredAt w m p q f (y + 1) i) (sharedWith w f i) 0) mostNames
         (λ i h.
-          let n = enough in
-          let d : laterCount ls t ≤ laterCount ls t = omega arith in
-          let one = remain-those (nameWords w) ls t low enough (laterCount ls t) d i h in
-          let value = remain-value (nameWords w) ls t (laterCount ls t) i h in
-          let old = getD-tabulate (λ (j : ℕ). cond (answeredAt w m p q f y j) (sharedWith w f j) 0) mostNames i 0 h in
-          ap₂ (λ (b : Bool) (c : ℕ). cond b c (getD (tabulate (λ (j : ℕ). cond (answeredAt w m p q f y j) (sharedWith w f j) 0) mostNames) i 0)) one value
-          ∙ ap (λ (c : ℕ). cond (remainsAt (nameWords w) ls t (laterCount ls t) i) (cond (remainsAt (nameWords w) ls t (laterCount ls t) i) (heldBy (take (signatures (length ls) t + laterCount ls t) ls) (idAt (nameWords w) i)) 0) c) old
-          ∙ at-place i h (remainsAt (nameWords w) ls t (laterCount ls t) i) refl)
+        let n = enough in
+        let d : laterCount ls t ≤ laterCount ls t = omega arith in
+        let one = remain-those (nameWords w) ls t low enough (laterCount ls t) d i h in
+        let value = remain-value (nameWords w) ls t (laterCount ls t) i h in
+        let old = getD-tabulate (λ (j : ℕ). cond (answeredAt w m p q f y j) (sharedWith w f j) 0) mostNames i 0 h in
+        ap₂ (λ (b : Bool) (c : ℕ). cond b c (getD (tabulate (λ (j : ℕ). cond (answeredAt w m p q f y j) (sharedWith w f j) 0) mostNames) i 0)) one value
+        ∙ ap (λ (c : ℕ). cond (remainsAt (nameWords w) ls t (laterCount ls t) i) (cond (remainsAt (nameWords w) ls t (laterCount ls t) i) (heldBy (take (signatures (length ls) t + laterCount ls t) ls) (idAt (nameWords w) i)) 0) c) old
+        ∙ at-place i h (remainsAt (nameWords w) ls t (laterCount ls t) i) refl)
+
+  -- ---- no size yet, and all sizes
+
+  pub answers-none : replicate {A = ℕ} mostNames 0 ≡ answersTable w m p q f 0
+  unfolding answersTable answeredAt
+  answers-none =
+      table-of (replicate mostNames 0) mostNames (λ (i : ℕ). cond (ltb i (nameCount w) && (ltb (nameSize w i) 0 && listed w m p q f i)) (sharedWith w f i) 0)
+      (length-replicate {A = ℕ} mostNames 0)
+      (λ i h.
+      getD-replicate mostNames i 0 0 h
+      ∙ sym (ap (λ (b : Bool). cond b (sharedWith w f i) 0)
+      (and-false-right (ltb i (nameCount w)) (ltb (nameSize w i) 0 && listed w m p q f i)
+      (and-false-left (ltb (nameSize w i) 0) (listed w m p q f i) (le-ltb (nameSize w i) 0 (omega arith))))))
+
+  pub length-answers : (y : ℕ) → length (answersTable w m p q f y) ≡ mostNames
+  unfolding answersTable
+  length-answers y = length-tabulate (λ (i : ℕ). cond (answeredAt w m p q f y i) (sharedWith w f i) 0) mostNames
+
+  -- the touches of a size
+  pub touches-searched : (y : ℕ) → isSearched m p q (length f) y ≡ true → touchesOfSize w m p q f y ≡ touchesAt w y (listsFor w y f) (leastCount m p q (length f) y)
+  unfolding touchesOfSize
+  touches-searched y e = rw e
+
+  pub touches-unsearched : (y : ℕ) → isSearched m p q (length f) y ≡ false → touchesOfSize w m p q f y ≡ 0
+  unfolding touchesOfSize
+  touches-unsearched y e = rw e
+
+  pub touches-nobody : (y : ℕ) → namesOf w y ≡ 0 → touchesOfSize w m p q f y ≡ 0
+  unfolding touchesOfSize
+  touches-nobody y z = by-test (isSearched m p q (length f) y) (touches-absent w good y f (leastCount m p q (length f) y) z)
+    where
+      by-test : (b : Bool) → touchesAt w y (listsFor w y f) (leastCount m p q (length f) y) ≡ 0
+          → cond b (touchesAt w y (listsFor w y f) (leastCount m p q (length f) y)) 0 ≡ 0
+      by-test true e = e
+      by-test false e = refl

@@ -325,3 +325,8 @@ signatures-least w y query t b chosen n =
         each-map : (q : List ℕ) → Each (λ (f : ℕ). f < featureSpan) q
             → Each (λ (f : ℕ). cond (chosen f) (length (listIn w y f)) 0 ≡ cond (chosen (keyOf (length (listIn w y f)) f % featureSpan)) (keyOf (length (listIn w y f)) f / featureSpan) 0) q
         each-map q e = each-members _ q (λ f m. told f (each-member (λ (g : ℕ). g < featureSpan) q e f m))
+
+-- no name has size 0
+pub nobody-zero : (w : List ℕ) → Good w → namesOf w 0 ≡ 0
+nobody-zero w good =
+    no-name w 0 (nameCount w) (λ i k e. let h = good-name-within w good i k in let l = h .1 in absurd (omega arith))

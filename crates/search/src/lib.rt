@@ -4,14 +4,15 @@ ghost use mathlib.Core.List.{List, _++_};
 ghost use Prim.Native.Nat.{ℕ, _+_, _*_, _/_, _%_, _≤_, _<_};
 ghost use lib.ListN.{length, getD, take, drop};
 ghost use lib.Dec.{eqb, leb};
-ghost use mathlib.Core.Bool.{cond};
+ghost use mathlib.Core.Bool.{true, cond};
+ghost use Rattle.likeness.specs.Measures.{goodMeasure};
 ghost use Rattle.laws.specs.Lists.{Ascending, member, tabulate};
 ghost use Rattle.laws.specs.Sort.{sortOf};
 ghost use Rattle.laws.specs.Below.{countBelow};
 ghost use Rattle.names.specs.Features.{mostFeatures};
 ghost use Rattle.index.specs.Good.{Good, mostNames};
 ghost use Rattle.search.specs.Method.{namesOf, sizesEnd};
-ghost use Rattle.search.specs.Tables.{Names, Named, MetBy, tallied, tested, kept, startOf, smallKey, cutAt, cutLists, Readable, remainTable, Gathered, Narrowed, nameWords, Asked, Walked, Sized};
+ghost use Rattle.search.specs.Tables.{Names, Named, MetBy, tallied, tested, kept, startOf, smallKey, cutAt, cutLists, Readable, remainTable, Gathered, Narrowed, nameWords, Asked, Walked, Sized, answersTable, Stepped, Covered};
 
 // What a search answers. specs/Answers.antt sets out the number and the values of each case.
 pub enum Answer {
@@ -347,4 +348,85 @@ fn one_size(
     let mut keys = [0u64; 66];
     order_lists(words, features, size, &mut starts, &mut keys[..x]);
     walk_lists(words, names, &keys[..x], &starts, least, budget, answers)
+}
+
+// ---- all sizes
+
+// Size y, of which `present` names are there; nothing is done where there are none or the size isn't searched.
+fn size_step(
+    words: &[u32],
+    names: &[u32],
+    features: &[u64],
+    measure: u8,
+    p: u16,
+    q: u16,
+    present: u32,
+    y: usize,
+    budget: usize,
+    answers: &mut [u32],
+) -> Spent
+    requires { ⌜ Good (now words) × (now names ≡ nameWords (now words)) × Asked (now features) × (goodMeasure measure ≡ true) × (y < sizesEnd) × (present ≡ namesOf (now words) y) × (now answers ≡ answersTable (now words) measure p q (now features) y) ⌝ }
+    ensures { λ r. ⌜ Stepped (now (words .entry)) measure p q (now (features .entry)) y budget (now (answers .exit)) (r .past) (r .touches) ⌝ }
+{
+    if present == 0 {
+        return Spent {
+            past: false,
+            touches: 0,
+        };
+    }
+    let x = features.len() as u8;
+    let size = y as u8;
+    if !likeness::searched(measure, p, q, x, size) {
+        return Spent {
+            past: false,
+            touches: 0,
+        };
+    }
+    let least = likeness::least_count(measure, p, q, x, size) as usize;
+    one_size(words, names, features, y as u32, least, budget, answers)
+}
+
+// All sizes upward, as long as their touches are within the allowance.
+fn all_sizes(
+    words: &[u32],
+    names: &[u32],
+    features: &[u64],
+    measure: u8,
+    p: u16,
+    q: u16,
+    allowance: usize,
+    answers: &mut [u32],
+) -> Spent
+    requires { ⌜ Good (now words) × (now names ≡ nameWords (now words)) × Asked (now features) × (goodMeasure measure ≡ true) × (now answers ≡ answersTable (now words) measure p q (now features) 0) ⌝ }
+    ensures { λ r. ⌜ Covered (now (words .entry)) measure p q (now (features .entry)) allowance (now (answers .exit)) (r .past) (r .touches) ⌝ }
+{
+    let present = sizes_present(words);
+    let mut touches = 0;
+    let mut y = 0;
+    while y < 67 {
+        let spent = size_step(
+            words,
+            names,
+            features,
+            measure,
+            p,
+            q,
+            present[y],
+            y,
+            allowance - touches,
+            answers,
+        );
+        if spent.past {
+            return Spent {
+                past: true,
+                touches: 0,
+            };
+        }
+        touches += spent.touches;
+        y += 1;
+    }
+    Spent {
+        past: false,
+        touches,
+    }
 }
