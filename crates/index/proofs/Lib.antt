@@ -4,3 +4,6 @@ mod Search
 mod Facts
 pub mod Laws
 mod Rows
+mod Check
+mod Names
+mod Tally

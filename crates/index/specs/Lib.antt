@@ -1,5 +1,6 @@
 pub mod Words
 pub mod Good
 pub mod Lists
+pub mod Check
 pub mod Built
 pub mod Part
