@@ -7,3 +7,4 @@ mod Rows
 mod Check
 mod Names
 mod Tally
+mod Total
