@@ -7,7 +7,7 @@ use mathlib.Core.List.{List, [], _∷_, _++_, append-nil}
 use Prim.Native.Nat.{ℕ, zero, suc, _+_, _≤_, _<_}
 use native.Mathlib.Nat.{eq-or-lt-of-le}
 use native.Mathlib.Omega.{arith}
-use lib.ListN.{length, length-append}
+use lib.ListN.{length, length-append, take, replicate, length-replicate, getD-replicate}
 use lib.Dec.{ltb, eqb}
 use borrow.Author.Tests.{lt-ltb, le-ltb, eq-eqb, eqb-true}
 use Rattle.laws.specs.Lists.{member, Distinct, Ascending, countOf}
@@ -22,9 +22,12 @@ use Rattle.laws.proofs.Ascending.{rises, rises-apart, member-place, ascending-n
 use Rattle.names.specs.Shared.{sharedOf}
 use Rattle.names.proofs.Shared.{shared-le-right}
 use Rattle.index.specs.Words.{nameCount, rowCount, postingCount, nameId, nameSize, rowSize, rowFeature, rowPlace, rowLength, posting, listAt, total}
-use Rattle.index.specs.Good.{mostNames, mostPostings, isName, listsWith, Good}
-use Rattle.index.specs.Lists.{rowIs, rowFor, spanAt, spanIn, listIn, featuresAmong, featuresIn}
+use Rattle.index.specs.Good.{mostNames, mostPostings, isName, listsWith, Good, headGood, namesGood, rowsGood, listsGood, goodOf}
+use Rattle.index.specs.Lists.{rowIs, rowFor, spanAt, spanIn, listIn, featuresAmong, featuresIn, namePlace}
 use Rattle.index.specs.Part.{none, cut}
+use Rattle.laws.proofs.Halving.{count-below-place}
+use Rattle.index.specs.Check.{Checked}
+use Rattle.index.proofs.Total.{total-good}
 use Rattle.index.proofs.Facts.{before-apart, Whole, good-facts, length-list, list-getD}
 
 -- ---- the head
@@ -274,3 +277,47 @@ held-le-size w g i l q d =
     let s = shared-le-right q (featuresIn w (nameId w i)) d (features-distinct w g i l) in
     let n = features-length w g i l in
     omega arith
+
+-- ---- what is not looked at, and what is never good
+
+-- a good index is judged by its first 3 + N + 4D + P words
+pub good-total : (w v : List ℕ) → take (total w) w ≡ take (total w) v → total w ≤ length v → Good w → Good v
+good-total w v same long g = total-good w v g same long
+
+-- words that are all 4,294,967,295 are not good, however many
+pub refused-not-good : (n : ℕ) → goodOf (replicate n 4294967295) ≡ false
+refused-not-good n =
+    let w : List ℕ = replicate n 4294967295 in
+    test-fails (goodOf w)
+    (λ g.
+    let h = good-facts w g .head in
+    let three = h .three in
+    let names = h .names in
+    let long : length w ≡ n = length-replicate n 4294967295 in
+    let first : nameCount w ≡ 4294967295 = getD-replicate n 0 4294967295 0 (omega arith) in
+    omega arith)
+
+-- ---- what the functions below `good` ask for
+
+pub good-checked : (w : List ℕ) → Good w → Checked w
+unfolding goodOf
+good-checked w g =
+    let abc = and-left (headGood w && namesGood w && rowsGood w) (listsGood w) g in
+    let ab = and-left (headGood w && namesGood w) (rowsGood w) abc in
+    record {
+      named = record { head = and-left (headGood w) (namesGood w) ab; names = and-right (headGood w) (namesGood w) ab };
+      rows = and-right (headGood w && namesGood w) (rowsGood w) abc;
+    }
+
+-- a name's place is found by its id
+pub good-place : (w : List ℕ) → Good w → (i : ℕ) → i < nameCount w → namePlace w (nameId w i) ≡ i
+unfolding namePlace
+good-place w g i l =
+    count-below-place (λ (j : ℕ). ltb (nameId w j) (nameId w i)) (nameCount w) i (omega arith)
+    (λ j h. lt-ltb (nameId w j) (nameId w i) (good-ids w g j i h l))
+    (λ j h m.
+    le-ltb (nameId w j) (nameId w i)
+    (⊎-elim
+    (λ (e : i ≡ j). let q = ap (nameId w) e in omega arith)
+    (λ (p : i < j). let q = good-ids w g i j p m in omega arith)
+    (eq-or-lt-of-le h)))

@@ -13,3 +13,7 @@ pub mod Entries
 pub mod Built
 pub mod Unique
 pub mod Pass
+mod Check
+mod Names
+mod Tally
+mod Total

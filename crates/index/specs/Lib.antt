@@ -1,6 +1,7 @@
 pub mod Words
 pub mod Good
 pub mod Lists
+pub mod Check
 pub mod Built
 pub mod Part
 pub mod Plain

@@ -1,16 +1,17 @@
 // The index words: what a good index is, the list of a size and a feature, membership. The rule: docs/RULE.md, "Index words";
 // the definitions: specs/.
 ghost use mathlib.Core.Path.{_≡_};
-ghost use mathlib.Core.Bool.{cond};
+ghost use mathlib.Core.Bool.{true, cond};
 ghost use Prim.Native.Nat.{ℕ, _+_, _-_, _*_, _^_, _≤_, _<_};
 ghost use lib.ListN.{length, getD};
-ghost use lib.Dec.{ltb};
+ghost use lib.Dec.{ltb, eqb};
 ghost use Rattle.laws.specs.Lists.{member, Ascending, countOf};
-ghost use Rattle.laws.specs.Below.{countBelow};
+ghost use Rattle.laws.specs.Below.{allBelow, countBelow};
 ghost use Rattle.index.specs.Words.{nameCount, rowCount, postingCount, namesStart, nameId, nameSize, rowWidth, rowStart, rowSize, rowFeature, rowPlace, rowLength, postingsStart, posting};
-ghost use Rattle.index.specs.Good.{Good};
+ghost use Rattle.index.specs.Good.{headGood, nameGood, namesGood, rowsGood, listGood, listsGood, goodOf, Good};
+ghost use Rattle.index.specs.Check.{Named, Checked, Tallied};
 ghost use Rattle.index.specs.Part.{Part};
-ghost use Rattle.index.specs.Lists.{rowKey, spanAt, spanIn};
+ghost use Rattle.index.specs.Lists.{rowKey, spanAt, spanIn, spanFor, namePlace, nameFor};
 
 // ---- the layout: nothing else knows where a word stands
 
@@ -178,6 +179,216 @@ pub fn holds(list: &[u32], id: u32) -> bool
     false
 }
 
+// ---- the check
+
+// The most names, the most postings, the largest id, the least and the largest size of a good index.
+pub const MOST_NAMES: usize = 256;
+
+pub const MOST_POSTINGS: usize = 16896;
+
+pub const LARGEST_ID: u32 = 65535;
+
+pub const LEAST_SIZE: u32 = 3;
+
+pub const LARGEST_SIZE: u32 = 66;
+
+fn head_good(words: &[u32]) -> bool
+    ensures { λ r. ⌜ r ≡ headGood (now (words .entry)) ⌝ }
+{
+    let n = words.len();
+    if n < 3 {
+        return false;
+    }
+    let names = name_count(words);
+    let rows = row_count(words);
+    let postings = posting_count(words);
+    if MOST_NAMES < names {
+        return false;
+    }
+    if MOST_POSTINGS < postings {
+        return false;
+    }
+    3 + names + 4 * rows + postings <= n
+}
+
+fn name_good(words: &[u32], i: usize) -> bool
+    requires { ⌜ namesStart + i < length (now words) ⌝ }
+    ensures { λ r. ⌜ r ≡ nameGood (now (words .entry)) i ⌝ }
+{
+    if LARGEST_ID < name_id(words, i) {
+        return false;
+    }
+    let size = name_size(words, i);
+    if size < LEAST_SIZE {
+        return false;
+    }
+    size <= LARGEST_SIZE
+}
+
+fn names_good(words: &[u32]) -> bool
+    requires { ⌜ headGood (now words) ≡ true ⌝ }
+    ensures { λ r. ⌜ r ≡ namesGood (now (words .entry)) ⌝ }
+{
+    let names = name_count(words);
+    let mut i: usize = 0;
+    while i < names {
+        if !name_good(words, i) {
+            return false;
+        }
+        if 0 < i {
+            if name_id(words, i) <= name_id(words, i - 1) {
+                return false;
+            }
+        }
+        i += 1;
+    }
+    true
+}
+
+fn rows_good(words: &[u32]) -> bool
+    requires { ⌜ headGood (now words) ≡ true ⌝ }
+    ensures { λ r. ⌜ r ≡ rowsGood (now (words .entry)) ⌝ }
+{
+    let rows = row_count(words);
+    let mut due: usize = 0;
+    let mut r: usize = 0;
+    while r < rows {
+        let count = row_length(words, r);
+        if count < 1 {
+            return false;
+        }
+        if row_place(words, r) != due {
+            return false;
+        }
+        if 0 < r {
+            if row_key(words, r) <= row_key(words, r - 1) {
+                return false;
+            }
+        }
+        due += count;
+        r += 1;
+    }
+    due == posting_count(words)
+}
+
+// How many names have an id below: the place of the id's name, where it is one.
+pub fn name_place(words: &[u32], id: u32) -> usize
+    requires { ⌜ Named (now words) ⌝ }
+    ensures { λ r. ⌜ r ≡ namePlace (now (words .entry)) id ⌝ }
+{
+    let names = name_count(words);
+    if LARGEST_ID < id {
+        return names;
+    }
+    let end = 3 + names;
+    place_in(&words[3..end], id * 256)
+}
+
+// The place of the name of that id and that size; N where there is none.
+fn name_for(words: &[u32], size: u32, id: u32) -> usize
+    requires { ⌜ Named (now words) ⌝ }
+    ensures { λ r. ⌜ r ≡ nameFor (now (words .entry)) size id ⌝ }
+{
+    let names = name_count(words);
+    let at = name_place(words, id);
+    if at < names {
+        if name_id(words, at) == id {
+            if name_size(words, at) == size {
+                return at;
+            }
+        }
+    }
+    names
+}
+
+// Whether row r's list is good; where it is, the tally has one more at the place of each of its names.
+fn list_good(words: &[u32], r: usize, tally: &mut [u32]) -> bool
+    requires { ⌜ Checked (now words) × (r < rowCount (now words)) × (nameCount (now words) ≤ length (now tally)) × Tallied (now words) r (now tally) ⌝ }
+    ensures { λ v. ⌜ v ≡ listGood (now (words .entry)) r ⌝ }
+    ensures { λ v. ⌜ (v ≡ true → Tallied (now (words .entry)) (r + 1) (now (tally .exit))) ⌝ }
+{
+    let names = name_count(words);
+    let start = row_place(words, r);
+    let count = row_length(words, r);
+    let size = row_size(words, r);
+    let mut k: usize = 0;
+    while k < count {
+        let id = posting(words, start + k);
+        if 0 < k {
+            if id <= posting(words, start + (k - 1)) {
+                return false;
+            }
+        }
+        let at = name_for(words, size, id);
+        if names <= at {
+            return false;
+        }
+        tally[at] += 1;
+        k += 1;
+    }
+    true
+}
+
+// Whether every row's list is good; where they are, the tally has how many lists hold each name.
+fn rows_tallied(words: &[u32], tally: &mut [u32]) -> bool
+    requires { ⌜ Checked (now words) × (nameCount (now words) ≤ length (now tally)) × Tallied (now words) 0 (now tally) ⌝ }
+    ensures { λ v. ⌜ v ≡ allBelow (rowCount (now (words .entry))) (listGood (now (words .entry))) ⌝ }
+    ensures { λ v. ⌜ (v ≡ true → Tallied (now (words .entry)) (rowCount (now (words .entry))) (now (tally .exit))) ⌝ }
+{
+    let rows = row_count(words);
+    let mut r: usize = 0;
+    while r < rows {
+        if !list_good(words, r, tally) {
+            return false;
+        }
+        r += 1;
+    }
+    true
+}
+
+// Whether each name's number in the tally is its size.
+fn tally_good(words: &[u32], tally: &[u32]) -> bool
+    requires { ⌜ (headGood (now words) ≡ true) × (nameCount (now words) ≤ length (now tally)) ⌝ }
+    ensures { λ v. ⌜ v ≡ allBelow (nameCount (now (words .entry))) (λ (i : ℕ). eqb (getD (now (tally .entry)) i 0) (nameSize (now (words .entry)) i)) ⌝ }
+{
+    let names = name_count(words);
+    let mut i: usize = 0;
+    while i < names {
+        if tally[i] != name_size(words, i) {
+            return false;
+        }
+        i += 1;
+    }
+    true
+}
+
+fn lists_good(words: &[u32]) -> bool
+    requires { ⌜ Checked (now words) ⌝ }
+    ensures { λ r. ⌜ r ≡ listsGood (now (words .entry)) ⌝ }
+{
+    let mut tally = [0u32; 256];
+    if !rows_tallied(words, &mut tally) {
+        return false;
+    }
+    tally_good(words, &tally)
+}
+
+// Whether the words are a good index, whatever they are.
+pub fn good(words: &[u32]) -> bool
+    ensures { λ r. ⌜ r ≡ goodOf (now (words .entry)) ⌝ }
+{
+    if !head_good(words) {
+        return false;
+    }
+    if !names_good(words) {
+        return false;
+    }
+    if !rows_good(words) {
+        return false;
+    }
+    lists_good(words)
+}
+
 // ---- the list of a size and a feature
 
 // The first row from `from` on, of those before `to`, whose size and feature as one number is not below the key; `to` where all are.
@@ -256,6 +467,16 @@ pub fn list_for_good(words: &[u32], size: u32, feature: u64) -> &[u32]
         if row_key(words, r) == key {
             return list_at(words, r);
         }
+    }
+    &words[0..0]
+}
+
+// The same of any words: the empty part too where the index isn't good.
+pub fn list_for(words: &[u32], size: u32, feature: u64) -> &[u32]
+    ensures { λ l. ⌜ Part (words .entry) l (spanFor (now (words .entry)) size feature) ⌝ }
+{
+    if good(words) {
+        return list_for_good(words, size, feature);
     }
     &words[0..0]
 }

@@ -1,0 +1,146 @@
+-- Where a name stands, found by a halving search of the name words. Cited by the proofs of `name_place` and `name_for`.
+-- Assumes nothing.
+use mathlib.Core.Path.{_≡_, sym, ap, subst, _∙_}
+use mathlib.Core.Logic.{⊎-elim}
+use mathlib.Core.Bool.{Bool, true, cond, _&&_}
+use mathlib.Core.List.{List}
+use Prim.Native.Nat.{ℕ, _+_, _*_, _/_, _≤_, _<_}
+use native.Mathlib.Nat.{eq-or-lt-of-le, zero-add}
+use native.Mathlib.Omega.{arith}
+use lib.ListN.{length, getD, take, drop, length-take, length-drop}
+use lib.Seq.{getD-take, getD-drop}
+use lib.Dec.{ltb, eqb}
+use borrow.Author.Tests.{lt-ltb, ltb-true, ltb-false, eq-eqb, eqb-true}
+use Rattle.laws.specs.Lists.{Ascending, countOf}
+use Rattle.laws.specs.Below.{countBelow}
+use Rattle.laws.proofs.Below.{and-both, and-left, and-right, sum-below-ext}
+use Rattle.laws.proofs.Ascending.{rises, ascending-of}
+use Rattle.laws.proofs.Found.{first-is, first-none}
+use Rattle.laws.proofs.Halving.{Falling, Stretch, count-below-place, falling-count, count-index}
+use Rattle.laws.proofs.Order.{le-or-lt}
+use Rattle.laws.proofs.Tests.{same-test}
+use Rattle.index.specs.Words.{nameCount, namesStart, nameWord, nameId, nameSize}
+use Rattle.index.specs.Good.{largestId}
+use Rattle.index.specs.Check.{Named}
+use Rattle.index.specs.Lists.{namePlace, nameFor}
+use Rattle.index.proofs.Facts.{head-facts, names-facts}
+
+-- the name words
+abbrev pub nameWords : List ℕ → List ℕ
+nameWords w = take (nameCount w) (drop namesStart w)
+
+module _ (w : List ℕ) (good : Named w) where
+  ids-rise : (i j : ℕ) → i < j → j < nameCount w → nameId w i < nameId w j
+  ids-rise = rises (nameCount w) (nameId w) (names-facts w (good .names) .next)
+
+  pub names-within : namesStart + nameCount w ≤ length w
+  names-within = let h = head-facts w (good .head) .within in omega arith
+
+  words-length : length (nameWords w) ≡ nameCount w
+  words-length = let h = names-within in simp (length-take, length-drop) (omega arith)
+
+  words-at : (i : ℕ) → i < nameCount w → getD (nameWords w) i 0 ≡ nameWord w i
+  unfolding nameWord
+  words-at i l = rw (getD-take, getD-drop)
+
+  pub words-ascend : Ascending (nameWords w)
+  unfolding nameId
+  words-ascend =
+      ascending-of (nameWords w)
+      (λ i j l m.
+      let n = words-length in
+      let a = words-at i (omega arith) in
+      let b = words-at j (omega arith) in
+      let h = ids-rise i j l (omega arith) in
+      omega arith)
+
+  -- an id's place among the names is its first word's place among the words
+  pub place-words : (id : ℕ) → countOf (λ (y : ℕ). ltb y (id * 256)) (nameWords w) ≡ namePlace w id
+  unfolding namePlace nameId
+  place-words id =
+      count-index (λ (y : ℕ). ltb y (id * 256)) (nameWords w)
+      ∙ ap (λ (n : ℕ). countBelow n (λ (i : ℕ). ltb (getD (nameWords w) i 0) (id * 256))) words-length
+      ∙ sum-below-ext (nameCount w) _ _
+      (λ i l.
+      ap (λ (b : Bool). cond b 1 0)
+      (ap (λ (x : ℕ). ltb x (id * 256)) (words-at i l)
+      ∙ same-test (ltb (nameWord w i) (id * 256)) (ltb (nameWord w i / 256) id)
+      (λ e. let h = ltb-true (nameWord w i) (id * 256) e in lt-ltb (nameWord w i / 256) id (omega arith))
+      (λ e. let h = ltb-true (nameWord w i / 256) id e in lt-ltb (nameWord w i) (id * 256) (omega arith))))
+
+  -- an id that is too large is past all names
+  pub place-large : (id : ℕ) → largestId < id → nameCount w ≡ namePlace w id
+  unfolding namePlace
+  place-large id h =
+      sym
+      (count-below-place (λ (i : ℕ). ltb (nameId w i) id) (nameCount w) (nameCount w) (omega arith)
+      (λ i l. let m = names-facts w (good .names) .id i l in lt-ltb (nameId w i) id (omega arith))
+      (λ i l m. absurd (omega arith)))
+
+  ids-fall : (id : ℕ) → Falling (λ (i : ℕ). ltb (nameId w i) id) (nameCount w)
+  ids-fall id i j l m e =
+      let u = ltb-true (nameId w j) id e in
+      ⊎-elim
+      (λ (p : i ≡ j). ap (λ (k : ℕ). ltb (nameId w k) id) p ∙ e)
+      (λ (p : i < j). let v = ids-rise i j p m in lt-ltb (nameId w i) id (omega arith))
+      (eq-or-lt-of-le l)
+
+  -- ---- what the search tells
+
+  module _ (y id at : ℕ) (found : at ≡ namePlace w id) where
+    stretch : Stretch (λ (i : ℕ). ltb (nameId w i) id) (nameCount w) at 0
+    unfolding namePlace
+    stretch =
+        subst (λ (n : ℕ). Stretch (λ (i : ℕ). ltb (nameId w i) id) (nameCount w) n 0) (sym found)
+        (falling-count (λ (i : ℕ). ltb (nameId w i) id) (nameCount w) (ids-fall id))
+
+    before : (i : ℕ) → i < at → nameId w i < id
+    before i l = ltb-true (nameId w i) id (stretch .below i l)
+
+    after : (i : ℕ) → at ≤ i → i < nameCount w → id ≤ nameId w i
+    after i l m = ltb-false (nameId w i) id (stretch .above i (omega arith) m)
+
+    -- only the name at the place can have the id
+    only : (i : ℕ) → i < nameCount w → nameId w i ≡ id → i ≡ at
+    only i l e =
+        ⊎-elim
+        (λ (p : at ≤ i).
+        ⊎-elim
+        (λ (q : at ≡ i). sym q)
+        (λ (q : at < i). let a = ids-rise at i q l in let b = after at (omega arith) (omega arith) in absurd (omega arith))
+        (eq-or-lt-of-le p))
+        (λ (p : i < at). let a = before i p in absurd (omega arith))
+        (le-or-lt at i)
+
+    test : ℕ → Bool
+    test i = eqb (nameId w i) id && eqb (nameSize w i) y
+
+    parts : (i : ℕ) → test i ≡ true → (nameId w i ≡ id) × (nameSize w i ≡ y)
+    unfolding test
+    parts i e =
+        let a = eqb (nameId w i) id in
+        let b = eqb (nameSize w i) y in
+        (eqb-true (nameId w i) id (and-left a b e), eqb-true (nameSize w i) y (and-right a b e))
+
+    nowhere : ((i : ℕ) → i < nameCount w → nameId w i ≡ id → nameSize w i ≡ y → ⊥) → nameCount w ≡ nameFor w y id
+    unfolding nameFor test
+    nowhere n =
+        sym
+        (first-none test (nameCount w) 0 (λ m l k e. let p = parts m e in n m (omega arith) (p .0) (p .1))
+        ∙ zero-add (nameCount w))
+
+    pub for-met : at < nameCount w → nameId w at ≡ id → nameSize w at ≡ y → at ≡ nameFor w y id
+    unfolding nameFor test
+    for-met l p q =
+        sym
+        (first-is test (nameCount w) 0 at (omega arith) (omega arith) (and-both _ _ (eq-eqb _ _ p) (eq-eqb _ _ q))
+        (λ m k h e. let a = before m h in let b = parts m e .0 in omega arith))
+
+    pub for-size : at < nameCount w → (nameSize w at ≡ y → ⊥) → nameCount w ≡ nameFor w y id
+    for-size l n = nowhere (λ i m p q. n (ap (nameSize w) (sym (only i m p)) ∙ q))
+
+    pub for-id : at < nameCount w → (nameId w at ≡ id → ⊥) → nameCount w ≡ nameFor w y id
+    for-id l n = nowhere (λ i m p q. n (ap (nameId w) (sym (only i m p)) ∙ p))
+
+    pub for-past : nameCount w ≤ at → nameCount w ≡ nameFor w y id
+    for-past l = nowhere (λ i m p q. let a = before i (omega arith) in omega arith)
