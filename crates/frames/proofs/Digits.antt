@@ -1,7 +1,7 @@
 -- The sixteen digits: their rule, by one test that is computed over every byte, and the two ways between digit and value.
 -- Cited by the proofs of `value` and `digit` and by Lines.antt.
 -- Assumes nothing.
-use mathlib.Core.Path.{_≡_, refl, sym, ap, _∙_}
+use mathlib.Core.Path.{_≡_, refl, ap, _∙_}
 use mathlib.Core.Bool.{Bool, true, false, cond, _&&_, false≢true}
 use mathlib.Core.List.{List, [], _∷_}
 use mathlib.Core.Logic.{⊎-elim}

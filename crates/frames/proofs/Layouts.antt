@@ -1,26 +1,29 @@
 -- Laws of layouts, once for all of them. Cited by the proofs of `frame` and by Laws.antt.
 -- Assumes nothing.
-use mathlib.Core.Path.{_≡_, refl, sym, ap, ap₂, _∙_}
-use mathlib.Core.Bool.{Bool, true, false, cond, _&&_, and-false}
+use mathlib.Core.Path.{_≡_, refl, sym, ap, _∙_}
+use mathlib.Core.Bool.{Bool, true, false, cond, and-false}
 use mathlib.Core.List.{List, [], _∷_, _++_, append-nil, append-assoc}
-use Prim.Native.Nat.{ℕ, zero, suc, _+_, _-_, _*_, _/_, _≤_, _<_}
-use native.Mathlib.Nat.{add-zero}
-use native.Mathlib.Numerals.{add-one, one-add}
+use Prim.Native.Nat.{ℕ, zero, suc, _+_, _*_, _/_, _^_, _≤_, _<_}
+use native.Mathlib.Nat.{add-zero, one-le-pow, pow-le-pow-right, lt-of-lt-of-le}
+use native.Mathlib.Numerals.{one-add}
 use native.Mathlib.Omega.{arith}
-use lib.ListN.{length, getD, take, drop, set, length-append, length-drop, drop-of-length-le}
+use lib.ListN.{length, getD, take, drop, set, replicate, length-replicate, length-append, length-take, length-drop, drop-of-length-le}
 use lib.Seq.{sets, sets-eq, length-take-le, take-length, drop-drop, getD-drop}
-use lib.Dec.{leb, ltb, eqb, leb·zero}
-use borrow.Author.Tests.{eq-eqb, ne-eqb, eqb-true, leb-true, le-leb, lt-leb, lt-ltb, le-ltb}
+use lib.Dec.{leb, eqb}
+use borrow.Author.Tests.{eq-eqb, ne-eqb, eqb-true, leb-true, leb-false, le-leb, lt-leb, lt-ltb, le-ltb}
 use Rattle.laws.specs.Lists.{sumOf}
 use Rattle.frames.specs.declared.Layout.{Layout}
 use Rattle.frames.specs.declared.Reading.{Reading}
-use Rattle.frames.specs.declared.Written.{Written}
-use Rattle.frames.specs.Lines.{hexOf, hexLine, wellFormed, bytesOf}
-use Rattle.frames.specs.Layouts.{headSize, narrow, fieldBytes, nameSize, laidOut, isFrame, fieldsOf, fieldsIn, nameIn, refusedWith, readOf, bufferOf, nameBytes, lineOf, writtenOf, outOf}
+use Rattle.frames.specs.Lines.{Bytes, hexOf, hexLine, wellFormed, bytesOf}
+use Rattle.frames.specs.Layouts.{headSize, narrow, fieldBytes, FieldsFit, nameSize, laidOut, isFrame, fieldsOf, fieldsIn, nameIn, acceptedAs, refusedWith, readOf, bufferOf, nameBytes, lineOf, writtenOf, outOf}
 use Rattle.frames.specs.Numbers.{numberOf, bytesFor}
 use Rattle.frames.proofs.Digits.{and-left, and-right}
-use Rattle.frames.proofs.Lines.{length-bytes, well-formed-length, length-hex, sets-append, sets-hex}
-use Rattle.frames.proofs.Numbers.{length-bytes-for}
+use Rattle.frames.proofs.Lines.{take-bytes, drop-bytes, length-bytes, well-formed-length, well-formed-bytes, length-hex, sets-append, sets-hex}
+use Rattle.frames.proofs.Numbers.{number-below, length-bytes-for}
+
+-- how many widths a layout has in the code, `Layout::FIELDS`
+abbrev pub most : ℕ
+most = 4
 
 -- ---- the widths, one after the other
 
@@ -53,6 +56,28 @@ pub length-field-bytes : (ws f : List ℕ) → length (fieldBytes ws f) ≡ sumO
 unfolding fieldBytes sumOf
 length-field-bytes [] f = refl
 length-field-bytes (w ∷ ws) f = rw (length-append, length-bytes-for, length-field-bytes ws (drop 1 f))
+
+-- each field that is read fits its width
+pub fields-fit : (ws t : List ℕ) → Bytes t → FieldsFit ws (fieldsOf ws t)
+unfolding fieldsOf
+fields-fit [] t b = tt
+fields-fit (w ∷ ws) t b =
+    let n : length (take w t) ≤ w = rw length-take (omega arith) in (
+      lt-of-lt-of-le (number-below (take w t) (take-bytes w t b)) (pow-le-pow-right (omega arith) n),
+      fields-fit ws (drop w t) (drop-bytes w t b),
+    )
+
+pub fit-at : (ws f : List ℕ) → FieldsFit ws f → (k : ℕ) → getD f k 0 < 256 ^ getD ws k 0
+fit-at [] [] h k = omega arith
+fit-at [] (n ∷ f) h k = absurd h
+fit-at (w ∷ ws) [] h k = absurd h
+fit-at (w ∷ ws) (n ∷ f) h zero = h .0
+fit-at (w ∷ ws) (n ∷ f) h (suc k) = fit-at ws f (h .1) k
+
+zeros-below : (n k w : ℕ) → getD (replicate n 0) k 0 < 256 ^ w
+zeros-below zero k w = one-le-pow w 256 (omega arith)
+zeros-below (suc n) zero w = one-le-pow w 256 (omega arith)
+zeros-below (suc n) (suc k) w = zeros-below n k w
 
 -- one field more
 pub fields-more : (ws t : List ℕ) (k : ℕ) → k < length ws
@@ -193,68 +218,75 @@ module _ (y : Layout) (l : List ℕ) (room : ℕ) where
   unfolding readOf
   read-long e h = rw (e, lt-leb _ _ h)
 
-  pub read-good : isFrame y l ≡ true → length (nameIn y l) ≤ room
-      → readOf y l room ≡ record { number = 0; fields = fieldsIn y l; len = length (nameIn y l) }
+  pub read-good : isFrame y l ≡ true → length (nameIn y l) ≤ room → readOf y l room ≡ acceptedAs y l
   unfolding readOf
   read-good e h = rw (e, le-leb _ _ h)
 
-  -- a reading with number 0 is that of a frame whose name fits
-  pub read-zero : readOf y l room .number ≡ 0 → (isFrame y l ≡ true) × (length (nameIn y l) ≤ room)
-  unfolding readOf refusedWith
-  read-zero e = by-test (isFrame y l) (leb (length (nameIn y l)) room) refl refl e
+  -- a reading is accepted, where the line is a frame whose name fits, or refused with 8 or with 11
+  pub read-cases : (P : Reading → Type 0) → (isFrame y l ≡ true → length (nameIn y l) ≤ room → P (acceptedAs y l))
+      → (isFrame y l ≡ true → room < length (nameIn y l) → P (refusedWith y 8))
+      → (isFrame y l ≡ false → P (refusedWith y 11))
+      → P (readOf y l room)
+  unfolding readOf
+  read-cases P good long malformed = by-test (isFrame y l) (leb (length (nameIn y l)) room) refl refl
     where
       by-test : (f t : Bool) → isFrame y l ≡ f → leb (length (nameIn y l)) room ≡ t
-          → cond f (cond t (record { number = 0; fields = fieldsIn y l; len = length (nameIn y l) }) (refusedWith y 8)) (refusedWith y 11) .number ≡ 0
-          → (isFrame y l ≡ true) × (length (nameIn y l) ≤ room)
-      by-test true true p q e = (p, leb-true _ _ q)
-      by-test true false p q e = absurd (omega arith)
-      by-test false t p q e = absurd (omega arith)
+          → P (cond f (cond t (acceptedAs y l) (refusedWith y 8)) (refusedWith y 11))
+      by-test true true p q = good p (leb-true _ _ q)
+      by-test true false p q = long p (leb-false _ _ q)
+      by-test false t p q = malformed p
 
-  -- ---- of a layout without a name
+  pub read-zero : readOf y l room .number ≡ 0 → (isFrame y l ≡ true) × (length (nameIn y l) ≤ room)
+  read-zero =
+      read-cases (λ r. r .number ≡ 0 → (isFrame y l ≡ true) × (length (nameIn y l) ≤ room)) (λ e h z. (e, h)) (λ e h z. absurd (omega arith))
+      (λ e z. absurd (omega arith))
 
-  read-plain : y .named ≡ false → readOf y l room ≡ cond (isFrame y l) (record { number = 0; fields = fieldsIn y l; len = 0 }) (refusedWith y 11)
-  unfolding readOf
-  read-plain p = rw (name-plain y l p, leb·zero)
+  -- every reading has as many fields as the layout has widths
+  pub length-read : length (readOf y l room .fields) ≡ length (y .widths)
+  unfolding fieldsIn
+  length-read =
+      read-cases (λ r. length (r .fields) ≡ length (y .widths)) (λ e h. length-fields (y .widths) (drop 1 (bytesOf l)))
+      (λ e h. length-replicate (length (y .widths)) 0)
+      (λ e. length-replicate (length (y .widths)) 0)
 
-  pub read-plain-len : y .named ≡ false → readOf y l room .len ≡ 0
-  unfolding refusedWith
-  read-plain-len p = rw (read-plain p) (by-test (isFrame y l))
-    where
-      by-test : (f : Bool) → cond f (record { number = 0; fields = fieldsIn y l; len = 0 }) (refusedWith y 11) .len ≡ 0
-      by-test true = refl
-      by-test false = refl
+  -- and each fits its width, refused or not
+  pub field-below : (r : Reading) → r ≡ readOf y l room → (k : ℕ) → getD (r .fields) k 0 < 256 ^ getD (y .widths) k 0
+  unfolding fieldsIn
+  field-below r q k =
+      let n : ℕ = length (y .widths) in
+      let t : List ℕ = drop 1 (bytesOf l) in
+      rw q
+      (read-cases (λ r. getD (r .fields) k 0 < 256 ^ getD (y .widths) k 0)
+      (λ e h.
+      fit-at (y .widths) (fieldsOf (y .widths) t) (fields-fit (y .widths) t (drop-bytes 1 (bytesOf l) (well-formed-bytes l (frame-well-formed y l e)))) k)
+      (λ e h. zeros-below n k (getD (y .widths) k 0))
+      (λ e. zeros-below n k (getD (y .widths) k 0)))
 
-  pub read-plain-refused : y .named ≡ false → (readOf y l room .number ≡ 0 → ⊥) → readOf y l room ≡ refusedWith y 11
-  read-plain-refused p = rw (read-plain p) (by-test (isFrame y l))
-    where
-      by-test : (f : Bool) → (cond f (record { number = 0; fields = fieldsIn y l; len = 0 }) (refusedWith y 11) .number ≡ 0 → ⊥)
-          → cond f (record { number = 0; fields = fieldsIn y l; len = 0 }) (refusedWith y 11) ≡ refusedWith y 11
-      by-test true n = absurd (n refl)
-      by-test false n = refl
+  -- of a layout without a name a reading has no length, and one that is refused is refused with 11
+  pub plain-len : y .named ≡ false → readOf y l room .len ≡ 0
+  plain-len p = read-cases (λ r. r .len ≡ 0) (λ e h. ap length (name-plain y l p)) (λ e h. refl) (λ e. refl)
+
+  pub plain-eleven : y .named ≡ false → (readOf y l room .number ≡ 0 → ⊥) → readOf y l room ≡ refusedWith y 11
+  plain-eleven p =
+      let n = ap length (name-plain y l p) in
+      read-cases (λ r. (r .number ≡ 0 → ⊥) → r ≡ refusedWith y 11) (λ e h q. absurd (q refl)) (λ e h q. absurd (omega arith)) (λ e q. refl)
 
 module _ (y : Layout) (l buffer : List ℕ) where
-  pub buffer-good : isFrame y l ≡ true → length (nameIn y l) ≤ length buffer
-      → bufferOf y l buffer ≡ nameIn y l ++ drop (length (nameIn y l)) buffer
+  pub buffer-good : readOf y l (length buffer) .number ≡ 0 → bufferOf y l buffer ≡ nameIn y l ++ drop (length (nameIn y l)) buffer
   unfolding bufferOf
-  buffer-good e h = rw (e, le-leb _ _ h)
-
-  -- copying the bytes behind the length byte to the start of the buffer leaves just that
-  pub name-copied : isFrame y l ≡ true → y .named ≡ true → length (nameIn y l) ≤ length buffer
-      → sets buffer 0 (take (length (nameIn y l)) (drop (headSize y + 1) (bytesOf l))) ≡ bufferOf y l buffer
-  name-copied e n h =
-      rw (← name-named y l n, take-length (nameIn y l)) (sets-front buffer (nameIn y l) h ∙ sym (buffer-good e h))
+  buffer-good z = rw (eq-eqb _ _ z)
 
   -- a refused reading leaves the buffer as it was
   pub buffer-kept : (readOf y l (length buffer) .number ≡ 0 → ⊥) → bufferOf y l buffer ≡ buffer
-  unfolding readOf bufferOf
-  buffer-kept n = by-test (isFrame y l) (leb (length (nameIn y l)) (length buffer)) n
-    where
-      by-test : (f t : Bool)
-          → (cond f (cond t (record { number = 0; fields = fieldsIn y l; len = length (nameIn y l) }) (refusedWith y 8)) (refusedWith y 11) .number ≡ 0 → ⊥)
-          → cond (f && t) (nameIn y l ++ drop (length (nameIn y l)) buffer) buffer ≡ buffer
-      by-test true true n = absurd (n refl)
-      by-test true false n = refl
-      by-test false t n = refl
+  unfolding bufferOf
+  buffer-kept n = rw (ne-eqb _ _ n)
+
+  -- copying the bytes behind the length byte to the start of the buffer leaves just what it should
+  pub name-copied : readOf y l (length buffer) .number ≡ 0 → y .named ≡ true
+      → sets buffer 0 (take (length (nameIn y l)) (drop (headSize y + 1) (bytesOf l))) ≡ bufferOf y l buffer
+  name-copied z n =
+      rw (← name-named y l n, take-length (nameIn y l))
+      (sets-front buffer (nameIn y l) (read-zero y l (length buffer) z .1) ∙ sym (buffer-good z))
 
 -- ---- writing
 
@@ -311,14 +343,11 @@ module _ (y : Layout) (f name : List ℕ) where
     written-good h r = rw (le-ltb _ _ h, le-leb _ _ r)
 
   module _ (out : List ℕ) where
-    pub out-long : 255 < length name → outOf y f name out ≡ out
-    unfolding outOf
-    out-long h = rw (lt-ltb _ _ h)
-
-    pub out-full : length name ≤ 255 → length out < length (lineOf y f name) → outOf y f name out ≡ out
-    unfolding outOf
-    out-full h r = rw (le-ltb _ _ h, lt-leb _ _ r)
-
     pub out-good : length name ≤ 255 → length (lineOf y f name) ≤ length out → outOf y f name out ≡ sets out 0 (lineOf y f name)
     unfolding outOf
-    out-good h r = rw (le-ltb _ _ h, le-leb _ _ r) (sym (sets-front out (lineOf y f name) r))
+    out-good h r = rw (written-good (length out) h r) (sym (sets-front out (lineOf y f name) r))
+
+    -- a refused writing leaves the buffer as it was
+    pub out-kept : (writtenOf y f name (length out) .number ≡ 0 → ⊥) → outOf y f name out ≡ out
+    unfolding outOf
+    out-kept n = rw (ne-eqb _ _ n)

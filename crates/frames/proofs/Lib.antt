@@ -2,4 +2,7 @@ pub mod Digits
 pub mod Lines
 pub mod Numbers
 pub mod Layouts
-pub mod Wider
+pub mod Coded
+pub mod Laws
+pub mod Five
+pub mod Cases

@@ -1,19 +1,19 @@
 -- Laws of hexadecimal lines: the pair at a place, one turn of the scan, and both ways between bytes and their line.
 -- Cited by the proofs of `hex` and by Layouts.antt.
 -- Assumes nothing.
-use mathlib.Core.Path.{_≡_, refl, sym, ap, ap₂, _∙_}
-use mathlib.Core.Bool.{Bool, true, false, _&&_, false≢true, and-false}
+use mathlib.Core.Path.{_≡_, refl, sym, ap, _∙_}
+use mathlib.Core.Bool.{true, false, _&&_, false≢true, and-false}
 use mathlib.Core.List.{List, [], _∷_, _++_}
-use Prim.Native.Nat.{ℕ, zero, suc, _+_, _*_, _/_, _%_, _≤_, _<_}
+use Prim.Native.Nat.{ℕ, zero, suc, _+_, _-_, _*_, _/_, _%_, _≤_, _<_}
 use native.Mathlib.Nat.{zero-add, div-add-mod'}
 use native.Mathlib.Numerals.{add-one, add-two}
 use native.Mathlib.Omega.{arith}
 use lib.Arith.{digits-div, digits-mod}
 use lib.ListN.{length, getD, take, drop, set, drop-of-length-le}
 use lib.Seq.{drop-cons, take-suc, length-take-le, getD-drop, sets}
-use lib.Dec.{ltb, eqb}
-use borrow.Author.Tests.{lt-ltb, le-ltb, ltb-true, eqb-true}
-use Rattle.frames.specs.Lines.{digitOf, valueOf, isDigit, hexOf, hexLine, wellFormed, bytesOf, Bytes}
+use lib.Dec.{eqb}
+use borrow.Author.Tests.{lt-ltb, ltb-true, eqb-true}
+use Rattle.frames.specs.Lines.{digitOf, placeIn, valueOf, isDigit, hexOf, hexLine, wellFormed, bytesOf, Bytes}
 use Rattle.frames.proofs.Digits.{and-left, and-right, value-digit, digit-value}
 
 -- ---- lists of bytes
@@ -124,6 +124,35 @@ well-formed-bytes (a ∷ b ∷ l) e zero =
     let q = digit-below b (pair-digits a b l e .1) in
     omega arith
 well-formed-bytes (a ∷ b ∷ l) e (suc k) = well-formed-bytes l (pair-digits a b l e .2) k
+
+-- ---- the one line feed
+
+feed-no-digit : isDigit 10 ≡ false
+unfolding isDigit valueOf placeIn
+feed-no-digit = refl
+
+no-feed : (a : ℕ) → isDigit a ≡ true → a ≡ 10 → ⊥
+no-feed a d e = false≢true (sym feed-no-digit ∙ ap isDigit (sym e) ∙ d)
+
+-- a line feed in a well-formed line stands at its end
+pub feed-last : (l : List ℕ) → wellFormed l ≡ true → (k : ℕ) → getD l k 0 ≡ 10 → k + 1 ≡ length l
+feed-last [] e k h = absurd (omega arith)
+feed-last (a ∷ []) e zero h = refl
+feed-last (a ∷ []) e (suc k) h = absurd (omega arith)
+feed-last (a ∷ b ∷ l) e zero h = absurd (no-feed a (pair-digits a b l e .0) h)
+feed-last (a ∷ b ∷ l) e (suc zero) h = absurd (no-feed b (pair-digits a b l e .1) h)
+feed-last (a ∷ b ∷ l) e (suc (suc k)) h = let r = feed-last l (pair-digits a b l e .2) k h in omega arith
+
+-- and one stands there
+pub last-feed : (l : List ℕ) → wellFormed l ≡ true → getD l (length l - 1) 0 ≡ 10
+unfolding wellFormed
+last-feed [] e = absurd (false≢true e)
+last-feed (a ∷ []) e = eqb-true a 10 e
+last-feed (a ∷ b ∷ l) e =
+    let w = pair-digits a b l e .2 in
+    let n = well-formed-length l w in
+    let m : suc (suc (length l)) - 1 ≡ suc (suc (length l - 1)) = omega arith in
+    rw m (last-feed l w)
 
 -- ---- both ways
 

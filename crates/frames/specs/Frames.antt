@@ -2,7 +2,6 @@
 -- Assumes nothing.
 use mathlib.Core.Bool.{true, false}
 use mathlib.Core.List.{List, [], _∷_}
-use Prim.Native.Nat.{ℕ}
 use Rattle.frames.specs.declared.Layout.{Layout}
 use Rattle.frames.specs.declared.Reading.{Reading}
 use Rattle.frames.specs.declared.NameRead.{NameRead}
@@ -41,22 +40,27 @@ refusalFrame = record { kind = 0x58; widths = 1 ∷ 4 ∷ []; named = false }
 abbrev pub layouts : List Layout
 layouts = nameFrame ∷ queryFrame ∷ rowFrame ∷ endFrame ∷ refusalFrame ∷ []
 
--- ---- the answers, set out: Malformed is number 11 and 0 in every field
+-- ---- the answers of the five readers, set out
 
+-- a 4E answer: its number, its id, the length of its name
 abbrev pub nameOut : NameRead → Reading
 nameOut r = record { number = r .number; fields = r .id ∷ []; len = r .len }
 
+-- a 51 answer: its number, its four fields, the length of its query
 abbrev pub queryOut : QueryRead → Reading
 queryOut r = record { number = r .number; fields = r .measure ∷ r .p ∷ r .q ∷ r .allowance ∷ []; len = r .len }
 
+-- a 52 answer: 0 and the fields of a row, or 11 and 0 in every field
 abbrev pub rowOut : RowRead → Reading
 rowOut (Row id shared size) = record { number = 0; fields = id ∷ shared ∷ size ∷ []; len = 0 }
 rowOut NoRow = refusedWith rowFrame 11
 
+-- a 45 answer: 0 and the fields of an end, or 11 and 0 in every field
 abbrev pub endOut : EndRead → Reading
 endOut (End rows touches p q) = record { number = 0; fields = rows ∷ touches ∷ p ∷ q ∷ []; len = 0 }
 endOut NoEnd = refusedWith endFrame 11
 
+-- a 58 answer: 0 and the fields of a refusal, or 11 and 0 in every field
 abbrev pub refusalOut : RefusalRead → Reading
 refusalOut (Refusal number touches) = record { number = 0; fields = number ∷ touches ∷ []; len = 0 }
 refusalOut NoRefusal = refusedWith refusalFrame 11

@@ -1,7 +1,7 @@
 -- Hexadecimal lines: bytes as pairs of upper-case digits, then one line feed. Cited by every contract of the crate.
 -- What the bytes of a frame mean is in Layouts.antt; the laws are in proofs/Lines.antt.
 -- Assumes nothing.
-use mathlib.Core.Bool.{Bool, true, false, cond, _&&_}
+use mathlib.Core.Bool.{Bool, false, cond, _&&_}
 use mathlib.Core.List.{List, [], _∷_, _++_}
 use Prim.Native.Nat.{ℕ, _+_, _*_, _/_, _%_, _<_}
 use lib.ListN.{getD}

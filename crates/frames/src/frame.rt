@@ -5,16 +5,15 @@ use crate::Written;
 use crate::hex;
 ghost use mathlib.Core.Path.{_≡_};
 ghost use mathlib.Core.Bool.{true, cond};
-ghost use mathlib.Core.List.{[], _∷_};
 ghost use Prim.Native.Nat.{_+_, _*_, _≤_, _<_};
-ghost use lib.ListN.{length, getD, take, drop};
+ghost use lib.ListN.{length};
 ghost use lib.Seq.{sets};
-ghost use Rattle.frames.specs.Lines.{hexOf, bytesOf, wellFormed};
+ghost use Rattle.frames.specs.Lines.{hexOf};
 ghost use Rattle.frames.specs.Layouts.{headSize, narrow, fieldBytes, nameBytes, lineOf, isFrame, fieldsIn, nameIn, readOf, refusedWith, bufferOf, writtenOf, outOf};
 
 // How many bytes the kind and the fields take.
 fn head_size(layout: Layout) -> usize
-    ensures { λ r. ⌜ (r ≡ headSize layout) × (r ≤ 1021) ⌝ }
+    ensures { λ r. ⌜ (r ≡ headSize layout) × (r ≤ 4096) ⌝ }
 {
     let mut n: usize = 1;
     let mut k = 0;
@@ -50,7 +49,7 @@ fn is_frame(line: &[u8], layout: Layout) -> bool
 }
 
 // The fields of a frame.
-fn fields(line: &[u8], layout: Layout) -> [u32; 4]
+fn fields(line: &[u8], layout: Layout) -> [u32; Layout::FIELDS]
     requires { ⌜ (isFrame layout (now line) ≡ true) × (narrow (layout .widths) ≡ true) ⌝ }
     ensures { λ r. ⌜ r ≡ fieldsIn layout (now (line .entry)) ⌝ }
 {
@@ -122,7 +121,7 @@ pub(crate) fn read_named(line: &[u8], layout: Layout, name: &mut [u8]) -> Readin
 }
 
 // Writes the fields, each at its width, from index 2 on.
-fn put_fields(out: &mut [u8], layout: Layout, fields: [u32; 4])
+fn put_fields(out: &mut [u8], layout: Layout, fields: [u32; Layout::FIELDS])
     requires { ⌜ (narrow (layout .widths) ≡ true) × (2 * headSize layout ≤ length (now out)) ⌝ }
     ensures { λ _. ⌜ now (out .exit) ≡ sets (now (out .entry)) 2 (hexOf (fieldBytes (layout .widths) fields)) ⌝ }
 {
@@ -151,7 +150,7 @@ fn put_name(out: &mut [u8], at: usize, named: bool, name: &[u8])
 // How long the line of a frame is, with a name of n bytes.
 fn line_len(layout: Layout, n: usize) -> usize
     requires { ⌜ n ≤ 255 ⌝ }
-    ensures { λ r. ⌜ (r ≡ 2 * (headSize layout + cond (layout .named) (1 + n) 0) + 1) × (r ≤ 2555) ⌝ }
+    ensures { λ r. ⌜ (r ≡ 2 * (headSize layout + cond (layout .named) (1 + n) 0) + 1) × (r ≤ 16384) ⌝ }
 {
     let head = head_size(layout);
     if layout.named {
@@ -161,7 +160,7 @@ fn line_len(layout: Layout, n: usize) -> usize
 }
 
 // Writes the line of a frame at the start of the buffer, which has the room.
-fn put_line(out: &mut [u8], layout: Layout, fields: [u32; 4], name: &[u8])
+fn put_line(out: &mut [u8], layout: Layout, fields: [u32; Layout::FIELDS], name: &[u8])
     requires { ⌜ (narrow (layout .widths) ≡ true) × (length (now name) ≤ 255) × (length (lineOf layout fields (now name)) ≤ length (now out)) ⌝ }
     ensures { λ _. ⌜ now (out .exit) ≡ sets (now (out .entry)) 0 (lineOf layout fields (now (name .entry))) ⌝ }
 {
@@ -174,7 +173,12 @@ fn put_line(out: &mut [u8], layout: Layout, fields: [u32; 4], name: &[u8])
 }
 
 // Writes a frame.
-pub(crate) fn write(out: &mut [u8], layout: Layout, fields: [u32; 4], name: &[u8]) -> Written
+pub(crate) fn write(
+    out: &mut [u8],
+    layout: Layout,
+    fields: [u32; Layout::FIELDS],
+    name: &[u8],
+) -> Written
     requires { ⌜ narrow (layout .widths) ≡ true ⌝ }
     ensures { λ r. ⌜ r ≡ writtenOf layout fields (now (name .entry)) (length (now (out .entry))) ⌝ }
     ensures { λ _. ⌜ now (out .exit) ≡ outOf layout fields (now (name .entry)) (now (out .entry)) ⌝ }

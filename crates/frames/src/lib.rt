@@ -11,7 +11,7 @@ ghost use Rattle.frames.specs.Frames.{nameFrame, queryFrame, rowFrame, e
 // A layout: the kind, the widths of the fields in bytes, and whether a name follows. A width of 0 is no field.
 pub struct Layout {
     pub kind: u8,
-    pub widths: [u8; 4],
+    pub widths: [u8; Layout::FIELDS],
     pub named: bool,
 }
 
@@ -53,7 +53,7 @@ impl Layout {
 // A reading of a frame: its number, its fields and the length of its name.
 pub struct Reading {
     pub number: u8,
-    pub fields: [u32; 4],
+    pub fields: [u32; Layout::FIELDS],
     pub len: usize,
 }
 

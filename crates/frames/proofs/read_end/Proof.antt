@@ -1,9 +1,10 @@
--- `read_end` meets its contract: the reading over its four widths is that of a 45 frame.
+-- `read_end` meets its contract: the reading by its layout in the code is that of a 45 frame, and each field fits its type.
 -- Assumes nothing.
 use mathlib.Core.Path.{refl}
 use borrow.Author.Needs.{needs}
 use Rattle.frames.specs.Frames.{endFrame}
-use Rattle.frames.proofs.Wider.{plain-read, plain-refused, field-below}
+use Rattle.frames.proofs.Layouts.{field-below}
+use Rattle.frames.proofs.Coded.{plain-read, plain-refused}
 use Rattle.frames.proofs.read_end.Statement.{statement}
 use Rattle.frames.proofs.read_end.Tie as tie
 
@@ -11,7 +12,7 @@ read-requires : tie.Need-read-requires
 read-requires c κs = search needs
 
 returns : tie.Need-returns
-returns c = plain-refused 0 endFrame _ _ _ (c .before .read .ensures) refl (c .if1 .taken)
+returns c = plain-refused endFrame _ _ _ (c .before .read .ensures) refl (c .if1 .taken)
 
 element-copy-out-rows : tie.Need-element-copy-out-rows
 element-copy-out-rows c = search needs
@@ -35,7 +36,7 @@ cast-q : tie.Need-cast-q
 cast-q c = record { fits = field-below _ _ _ _ (c .before .before .before .before .before .read .ensures) 3 }
 
 returns-2 : tie.Need-returns-2
-returns-2 c = plain-read 0 endFrame _ _ _ (c .before .before .before .before .before .read .ensures) refl (c .before .before .before .before .if1 .left)
+returns-2 c = plain-read endFrame _ _ _ (c .before .before .before .before .before .read .ensures) refl (c .before .before .before .before .if1 .left)
 
 pub read-end-spec : {M : Type 1} → statement M
 read-end-spec =

@@ -1,9 +1,10 @@
--- `read_name` meets its contract: the reading over four widths, three of them 0, is that of a 4E frame.
+-- `read_name` meets its contract: the reading by its layout in the code is that of a 4E frame, and each field fits its type.
 -- Assumes nothing.
 use mathlib.Core.Path.{_∙_}
 use borrow.Author.Needs.{needs}
 use Rattle.frames.specs.Frames.{nameFrame}
-use Rattle.frames.proofs.Wider.{read-as, field-below, buffer-wider}
+use Rattle.frames.proofs.Layouts.{field-below}
+use Rattle.frames.proofs.Coded.{read-as, buffer-as}
 use Rattle.frames.proofs.read_name.Statement.{statement}
 use Rattle.frames.proofs.read_name.Tie as tie
 
@@ -20,7 +21,7 @@ same-length : tie.Need-same-length
 same-length c = search needs
 
 returns : tie.Need-returns
-returns c = let r = c .before .before .before .read-named in (read-as 3 nameFrame _ _ _ (r .ensures .0), r .ensures .1 ∙ buffer-wider 3 nameFrame _ _)
+returns c = let r = c .before .before .before .read-named in (read-as nameFrame _ _ _ (r .ensures .0), r .ensures .1 ∙ buffer-as nameFrame _ _)
 
 pub read-name-spec : {M : Type 1} → statement M
 read-name-spec =

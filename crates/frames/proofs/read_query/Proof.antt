@@ -1,9 +1,10 @@
--- `read_query` meets its contract: the reading over its four widths is that of a 51 frame.
+-- `read_query` meets its contract: the reading by its layout in the code is that of a 51 frame, and each field fits its type.
 -- Assumes nothing.
 use mathlib.Core.Path.{_∙_}
 use borrow.Author.Needs.{needs}
 use Rattle.frames.specs.Frames.{queryFrame}
-use Rattle.frames.proofs.Wider.{read-as, field-below, buffer-wider}
+use Rattle.frames.proofs.Layouts.{field-below}
+use Rattle.frames.proofs.Coded.{read-as, buffer-as}
 use Rattle.frames.proofs.read_query.Statement.{statement}
 use Rattle.frames.proofs.read_query.Tie as tie
 
@@ -35,7 +36,7 @@ same-length : tie.Need-same-length
 same-length c = search needs
 
 returns : tie.Need-returns
-returns c = let r = c .before .before .before .before .before .before .read-named in (read-as 0 queryFrame _ _ _ (r .ensures .0), r .ensures .1 ∙ buffer-wider 0 queryFrame _ _)
+returns c = let r = c .before .before .before .before .before .before .read-named in (read-as queryFrame _ _ _ (r .ensures .0), r .ensures .1 ∙ buffer-as queryFrame _ _)
 
 pub read-query-spec : {M : Type 1} → statement M
 read-query-spec =

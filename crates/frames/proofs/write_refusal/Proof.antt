@@ -1,4 +1,4 @@
--- `write_refusal` meets its contract: widths of 0 add nothing to the line, so the line over four widths is that of a 58 frame.
+-- `write_refusal` meets its contract: a width of 0 adds nothing to the line.
 -- Assumes nothing.
 use borrow.Author.Needs.{needs}
 use Rattle.frames.specs.Numbers.{bytesFor}

@@ -1,7 +1,7 @@
 -- `head_size` meets its contract: after k turns n is 1 and the first k widths.
 -- Assumes nothing.
-use mathlib.Core.Path.{_≡_, refl, ap, _∙_}
-use Prim.Native.Nat.{ℕ, _+_, _*_, _-_, _≤_, _<_}
+use mathlib.Core.Path.{_≡_, refl}
+use Prim.Native.Nat.{_+_, _*_, _-_, _≤_, _<_}
 use native.Mathlib.Omega.{arith}
 use lib.ListN.{length, getD, take}
 use lib.Seq.{take-length}
@@ -10,15 +10,15 @@ use mir.Val.{Fits}
 use borrow.Author.Needs.{needs}
 use Rattle.laws.specs.Lists.{sumOf}
 use Rattle.frames.specs.Layouts.{headSize}
-use Rattle.frames.proofs.Layouts.{sum-more}
+use Rattle.frames.proofs.Layouts.{most, sum-more}
 use Rattle.frames.proofs.frame.head_size.Statement.{statement}
 use Rattle.frames.proofs.frame.head_size.Tie as tie
 
 abbrev Inv-loop : tie.InvT-loop
-Inv-loop layout n₀ k₀ n k = (k ≤ 4) × (n ≡ 1 + sumOf (take k (layout .widths))) × (n ≤ 1 + 255 * k)
+Inv-loop layout n₀ k₀ n k = (k ≤ most) × (n ≡ 1 + sumOf (take k (layout .widths))) × (n ≤ 1 + 255 * k)
 
 abbrev μ-loop : tie.MeasureT-loop
-μ-loop layout n₀ k₀ n k = 4 - k
+μ-loop layout n₀ k₀ n k = most - k
 
 loop-holds : tie.Need-loop-holds Inv-loop μ-loop
 unfolding sumOf
@@ -49,7 +49,7 @@ loop-again : tie.Need-loop-again Inv-loop μ-loop
 loop-again c =
     let l = c .before .before in
     let w = l .before .args .t1 .widths in
-    let n : length w ≡ 4 = search needs in
+    let n : length w ≡ most = search needs in
     let m = sum-more w (l .loop .k) (omega arith) in
     let h = below c in
     (omega arith, omega arith, omega arith)
@@ -59,7 +59,7 @@ unfolding headSize
 returns c =
     let l = c .before in
     let w = l .before .args .t1 .widths in
-    let n : length w ≡ 4 = search needs in
+    let n : length w ≡ most = search needs in
     let e : l .loop .k ≡ length w = omega arith in
     (rw (e, take-length w) at (l .loop .inv .1), omega arith)
 

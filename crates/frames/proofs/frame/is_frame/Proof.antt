@@ -1,11 +1,11 @@
 -- `is_frame` meets its contract: each test settles one part of what makes a line a frame of the layout.
 -- Assumes nothing.
-use mathlib.Core.Path.{_≡_, sym, ap, _∙_}
+use mathlib.Core.Path.{sym, _∙_}
 use native.Mathlib.Omega.{arith}
 use borrow.Author.Needs.{needs}
 use borrow.Author.Tests.{not-true, not-false}
 use Rattle.frames.specs.Lines.{bytesOf}
-use Rattle.frames.specs.Layouts.{headSize, nameSize}
+use Rattle.frames.specs.Layouts.{headSize}
 use Rattle.frames.proofs.Layouts.{size-named, frame-damaged, frame-other, frame-short, frame-sized, frame-plain}
 use Rattle.frames.proofs.frame.is_frame.Statement.{statement}
 use Rattle.frames.proofs.frame.is_frame.Tie as tie

@@ -1,6 +1,5 @@
 -- `line_len` meets its contract: two digits for each byte, and the line feed.
 -- Assumes nothing.
-use mathlib.Core.Path.{_≡_}
 use native.Mathlib.Nat.{add-zero}
 use native.Mathlib.Omega.{arith}
 use borrow.Author.Needs.{needs}

@@ -1,6 +1,6 @@
 -- `name_len` meets its contract: the name is what the line has beyond its head and the length byte.
 -- Assumes nothing.
-use mathlib.Core.Path.{_≡_, sym, ap}
+use mathlib.Core.Path.{sym, ap}
 use native.Mathlib.Omega.{arith}
 use lib.ListN.{length}
 use borrow.Author.Needs.{needs}

@@ -1,7 +1,7 @@
 -- `put_fields` meets its contract: after k turns the digits of the first k fields stand from index 2 on, and `at` is behind them.
 -- Assumes nothing.
-use mathlib.Core.Path.{_≡_, refl, sym, ap, _∙_}
-use Prim.Native.Nat.{ℕ, _+_, _*_, _-_, _≤_, _<_}
+use mathlib.Core.Path.{_≡_, refl, _∙_}
+use Prim.Native.Nat.{_+_, _*_, _-_, _≤_, _<_}
 use native.Mathlib.Omega.{arith}
 use lib.ListN.{length, getD, take}
 use lib.Seq.{sets, take-length}
@@ -9,19 +9,19 @@ use borrow.Author.Needs.{needs}
 use Rattle.laws.specs.Lists.{sumOf}
 use Rattle.frames.specs.Lines.{hexOf}
 use Rattle.frames.specs.Layouts.{headSize, fieldBytes}
-use Rattle.frames.proofs.Layouts.{sum-more, sum-take-le, narrow-at, field-bytes-turn}
+use Rattle.frames.proofs.Layouts.{most, sum-more, sum-take-le, narrow-at, field-bytes-turn}
 use Rattle.frames.proofs.frame.put_fields.Statement.{statement}
 use Rattle.frames.proofs.frame.put_fields.Tie as tie
 
 abbrev Inv-loop : tie.InvT-loop
 Inv-loop out₀ layout fields at₀ k₀ out at k =
-    (k ≤ 4)
+    (k ≤ most)
     × (out ≡ sets out₀ 2 (hexOf (fieldBytes (take k (layout .widths)) fields)))
     × (at ≡ 2 + 2 * sumOf (take k (layout .widths)))
     × (length out ≡ length out₀)
 
 abbrev μ-loop : tie.MeasureT-loop
-μ-loop out₀ layout fields at₀ k₀ out at k = 4 - k
+μ-loop out₀ layout fields at₀ k₀ out at k = most - k
 
 loop-holds : tie.Need-loop-holds Inv-loop μ-loop
 unfolding fieldBytes hexOf sumOf
@@ -39,9 +39,9 @@ mul-put-number c = omega arith
 array-read-put-number : tie.Need-array-read-put-number Inv-loop μ-loop
 array-read-put-number c = omega arith
 
--- a layout has four widths
-four : (c : tie.In-loop Inv-loop μ-loop) → length (c .before .before .before .args .t2 .widths) ≡ 4
-four c = search needs
+-- how many widths there are
+counted : (c : tie.In-loop Inv-loop μ-loop) → length (c .before .before .before .args .t2 .widths) ≡ most
+counted c = search needs
 
 put-number-requires : tie.Need-put-number-requires Inv-loop μ-loop
 unfolding headSize
@@ -49,7 +49,7 @@ put-number-requires c κs =
     let l = c .before .before .before in
     let s = l .before .before in
     let ws = s .args .t2 .widths in
-    let f = four (c .before .before) in
+    let f = counted (c .before .before) in
     let m = sum-more ws (l .loop .k) (omega arith) in
     let t = sum-take-le ws (l .loop .k + 1) in
     let p : 2 * (1 + sumOf ws) ≤ length (s .args .out .now) = s .pre .1 in
@@ -87,7 +87,7 @@ loop-again c =
     let a = l .before .before .args in
     let ws = a .t2 .widths in
     let k = l .loop .k in
-    let f = four (c .before .before .before .before .before) in
+    let f = counted (c .before .before .before .before .before) in
     let h : k < length ws = omega arith in
     let m = sum-more ws k h in (
       omega arith,
@@ -103,7 +103,7 @@ returns : tie.Need-returns Inv-loop μ-loop
 returns c =
     let l = c .before in
     let ws = l .before .before .args .t2 .widths in
-    let f : length ws ≡ 4 = search needs in
+    let f : length ws ≡ most = search needs in
     let e : l .loop .k ≡ length ws = omega arith in
     rw (e, take-length ws) at (l .loop .inv .1)
 

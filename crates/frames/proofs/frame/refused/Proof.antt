@@ -1,16 +1,15 @@
--- `refused` meets its contract: a layout has four widths, so the refused reading has four fields of 0.
+-- `refused` meets its contract: a layout has as many widths as the array of fields has places, each of them 0.
 -- Assumes nothing.
 use mathlib.Core.Path.{_≡_}
 use lib.ListN.{length}
 use borrow.Author.Needs.{needs}
-use Rattle.frames.specs.Layouts.{refusedWith}
+use Rattle.frames.proofs.Layouts.{most}
 use Rattle.frames.proofs.frame.refused.Statement.{statement}
 use Rattle.frames.proofs.frame.refused.Tie as tie
 
 returns : tie.Need-returns
-unfolding refusedWith
 returns c =
-    let e : length (c .args .layout .widths) ≡ 4 = search needs in
+    let e : length (c .args .layout .widths) ≡ most = search needs in
     rw e
 
 pub refused-spec : {M : Type 1} → statement M

@@ -1,11 +1,7 @@
 -- `byte_at` meets its contract: the bytes of a line are its pairs in order.
 -- Assumes nothing.
-use mathlib.Core.Path.{_≡_}
-use Prim.Native.Nat.{_+_, _*_}
 use native.Mathlib.Omega.{arith}
-use lib.ListN.{getD}
 use borrow.Author.Needs.{needs}
-use Rattle.frames.specs.Lines.{valueOf}
 use Rattle.frames.proofs.Lines.{byte-pair}
 use Rattle.frames.proofs.hex.byte_at.Statement.{statement}
 use Rattle.frames.proofs.hex.byte_at.Tie as tie

@@ -1,12 +1,11 @@
 -- `is_well_formed` meets its contract: what is left of the line from i on is well formed exactly if the whole line is.
 -- Assumes nothing.
 use mathlib.Core.Path.{_≡_, refl, sym, _∙_}
-use mathlib.Core.Bool.{false}
-use Prim.Native.Nat.{_≤_, _<_, _-_}
+use Prim.Native.Nat.{_≤_, _-_}
 use native.Mathlib.Omega.{arith}
-use lib.ListN.{length, getD, drop}
+use lib.ListN.{length, drop}
 use borrow.Author.Needs.{needs}
-use Rattle.frames.specs.Lines.{wellFormed, valueOf}
+use Rattle.frames.specs.Lines.{wellFormed}
 use Rattle.frames.proofs.Lines.{scan-step, scan-high, scan-low, scan-none, scan-last}
 use Rattle.frames.proofs.hex.is_well_formed.Statement.{statement}
 use Rattle.frames.proofs.hex.is_well_formed.Tie as tie

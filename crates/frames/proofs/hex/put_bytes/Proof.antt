@@ -1,9 +1,9 @@
 -- `put_bytes` meets its contract: after k turns the digits of the first k bytes stand from index `at` on.
 -- Assumes nothing.
-use mathlib.Core.Path.{_≡_, refl, sym, ap, _∙_}
-use Prim.Native.Nat.{ℕ, _+_, _*_, _-_, _≤_, _<_}
+use mathlib.Core.Path.{_≡_, refl, _∙_}
+use Prim.Native.Nat.{_+_, _*_, _-_, _≤_}
 use native.Mathlib.Omega.{arith}
-use lib.ListN.{length, getD, take}
+use lib.ListN.{length, take}
 use lib.Seq.{sets, take-length}
 use Rattle.frames.specs.Lines.{hexOf}
 use Rattle.frames.proofs.Lines.{hex-more}

@@ -1,11 +1,11 @@
 -- `put_number` meets its contract: after k turns the digits of the first k bytes of the number stand from index `at` on.
 -- Assumes nothing.
-use mathlib.Core.Path.{_≡_, refl, sym, ap, _∙_}
+use mathlib.Core.Path.{_≡_, refl, sym, _∙_}
 use mathlib.Core.List.{List}
-use Prim.Native.Nat.{ℕ, _+_, _*_, _-_, _≤_, _<_}
+use Prim.Native.Nat.{ℕ, _+_, _*_, _-_, _≤_}
 use native.Mathlib.Omega.{arith}
 use lib.ListN.{length, getD, take}
-use lib.Seq.{sets, length-sets, take-length}
+use lib.Seq.{sets, take-length}
 use Rattle.frames.specs.Lines.{hexOf}
 use Rattle.frames.specs.Numbers.{bytesFor}
 use Rattle.frames.proofs.Lines.{hex-more}

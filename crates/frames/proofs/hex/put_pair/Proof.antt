@@ -1,6 +1,5 @@
 -- `put_pair` meets its contract: the two stores are the two digits in a row.
 -- Assumes nothing.
-use mathlib.Core.Path.{_≡_}
 use native.Mathlib.Numerals.{add-one}
 use native.Mathlib.Omega.{arith}
 use lib.ListN.{length-set}
