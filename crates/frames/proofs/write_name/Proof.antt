@@ -1,0 +1,20 @@
+-- `write_name` meets its contract: a width of 0 adds nothing to the line.
+-- Assumes nothing.
+use borrow.Author.Needs.{needs}
+use Rattle.frames.specs.Numbers.{bytesFor}
+use Rattle.frames.specs.Layouts.{fieldBytes, lineOf, writtenOf, outOf}
+use Rattle.frames.proofs.write_name.Statement.{statement}
+use Rattle.frames.proofs.write_name.Tie as tie
+
+write-requires : tie.Need-write-requires
+write-requires c κs = search needs
+
+same-length : tie.Need-same-length
+same-length c = search needs
+
+returns : tie.Need-returns
+unfolding writtenOf outOf lineOf fieldBytes bytesFor
+returns c = c .before .before .write .ensures
+
+pub write-name-spec : {M : Type 1} → statement M
+write-name-spec = tie.close (tie.spec write-requires same-length returns)

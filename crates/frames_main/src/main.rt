@@ -1,0 +1,241 @@
+// Shows what each of the five readers makes of lines good and damaged, and what the writers make of what was read.
+// In the input a bar stands behind each line, so that a line may lack its line feed or have two.
+// The file stdout was made by a second program, in another language, from the rule of the frames alone (docs/RULE.md).
+use frames::EndRead;
+use frames::NameRead;
+use frames::QueryRead;
+use frames::RefusalRead;
+use frames::RowRead;
+use frames::Written;
+
+fn text(s: &[u8]) {
+    io::write_all(1, s);
+}
+
+// A number, with a space before it.
+fn number(n: u64) {
+    text(b" ");
+    io::print_decimal(1, n);
+}
+
+// What a writer answered, and what it left: the room that it was lent, and one byte beyond.
+fn written(w: Written, out: [u8; 640], room: usize) {
+    text(b" wrote");
+    number(w.number as u64);
+    number(w.len as u64);
+    text(b" ");
+    if room < 640 {
+        text(&out[0..room + 1]);
+    }
+    text(b"\n");
+}
+
+fn put_name(room: usize, r: NameRead, name: [u8; 255]) {
+    let mut out = [46u8; 640];
+    let len = r.len;
+    if room <= 640 {
+        if len <= 255 {
+            let w = frames::write_name(&mut out[0..room], r.id, &name[0..len]);
+            written(w, out, room);
+        }
+    }
+}
+
+fn put_query(room: usize, r: QueryRead, query: [u8; 255]) {
+    let mut out = [46u8; 640];
+    let len = r.len;
+    if room <= 640 {
+        if len <= 255 {
+            let w = frames::write_query(
+                &mut out[0..room],
+                r.measure,
+                r.p,
+                r.q,
+                r.allowance,
+                &query[0..len],
+            );
+            written(w, out, room);
+        }
+    }
+}
+
+fn put_row(room: usize, id: u16, shared: u8, size: u8) {
+    let mut out = [46u8; 640];
+    if room <= 640 {
+        let w = frames::write_row(&mut out[0..room], id, shared, size);
+        written(w, out, room);
+    }
+}
+
+fn put_end(room: usize, rows: u16, touches: u32, p: u16, q: u16) {
+    let mut out = [46u8; 640];
+    if room <= 640 {
+        let w = frames::write_end(&mut out[0..room], rows, touches, p, q);
+        written(w, out, room);
+    }
+}
+
+fn put_refusal(room: usize, no: u8, touches: u32) {
+    let mut out = [46u8; 640];
+    if room <= 640 {
+        let w = frames::write_refusal(&mut out[0..room], no, touches);
+        written(w, out, room);
+    }
+}
+
+// A name is read into 8 bytes, and again into 255 for the writer, which is lent the line's length and then one byte less.
+fn name(line: &[u8]) {
+    let mut small = [46u8; 8];
+    let r = frames::read_name(line, &mut small);
+    text(b"4E");
+    number(r.number as u64);
+    number(r.id as u64);
+    number(r.len as u64);
+    text(b" ");
+    text(&small);
+    text(b"\n");
+    let mut large = [46u8; 255];
+    let s = frames::read_name(line, &mut large);
+    let n = line.len();
+    if s.number == 0 && 0 < n {
+        put_name(n, s, large);
+        put_name(n - 1, s, large);
+    }
+}
+
+fn query(line: &[u8]) {
+    let mut small = [46u8; 8];
+    let r = frames::read_query(line, &mut small);
+    text(b"51");
+    number(r.number as u64);
+    number(r.measure as u64);
+    number(r.p as u64);
+    number(r.q as u64);
+    number(r.allowance as u64);
+    number(r.len as u64);
+    text(b" ");
+    text(&small);
+    text(b"\n");
+    let mut large = [46u8; 255];
+    let s = frames::read_query(line, &mut large);
+    let n = line.len();
+    if s.number == 0 && 0 < n {
+        put_query(n, s, large);
+        put_query(n - 1, s, large);
+    }
+}
+
+fn row(line: &[u8]) {
+    text(b"52");
+    match frames::read_row(line) {
+        RowRead::Row { id, shared, size } => {
+            number(0);
+            number(id as u64);
+            number(shared as u64);
+            number(size as u64);
+            text(b"\n");
+            put_row(11, id, shared, size);
+            put_row(10, id, shared, size);
+        }
+        RowRead::Malformed => {
+            number(11);
+            text(b"\n");
+        }
+    }
+}
+
+fn end(line: &[u8]) {
+    text(b"45");
+    match frames::read_end(line) {
+        EndRead::End {
+            rows,
+            touches,
+            p,
+            q,
+        } => {
+            number(0);
+            number(rows as u64);
+            number(touches as u64);
+            number(p as u64);
+            number(q as u64);
+            text(b"\n");
+            put_end(23, rows, touches, p, q);
+            put_end(22, rows, touches, p, q);
+        }
+        EndRead::Malformed => {
+            number(11);
+            text(b"\n");
+        }
+    }
+}
+
+fn refusal(line: &[u8]) {
+    text(b"58");
+    match frames::read_refusal(line) {
+        RefusalRead::Refusal {
+            number: no,
+            touches,
+        } => {
+            number(0);
+            number(no as u64);
+            number(touches as u64);
+            text(b"\n");
+            put_refusal(13, no, touches);
+            put_refusal(12, no, touches);
+        }
+        RefusalRead::Malformed => {
+            number(11);
+            text(b"\n");
+        }
+    }
+}
+
+fn all(line: &[u8]) {
+    name(line);
+    query(line);
+    row(line);
+    end(line);
+    refusal(line);
+}
+
+// Each line of the input, up to its bar.
+fn lines(input: &[u8]) {
+    let mut from = 0;
+    let mut i = 0;
+    while i < input.len() {
+        if input[i] == b'|' {
+            all(&input[from..i]);
+            from = i + 1;
+        }
+        i += 1;
+    }
+}
+
+// A name of 256 bytes is refused with 2, with room for its line and without.
+fn long_name(room: usize) {
+    let long = [65u8; 256];
+    let mut out = [46u8; 640];
+    if room <= 640 {
+        let w = frames::write_name(&mut out[0..room], 1, &long);
+        written(w, out, room);
+    }
+}
+
+fn long_query(room: usize) {
+    let long = [65u8; 256];
+    let mut out = [46u8; 640];
+    if room <= 640 {
+        let w = frames::write_query(&mut out[0..room], 1, 2, 3, 4, &long);
+        written(w, out, room);
+    }
+}
+
+fn main() {
+    let mut input = io::large_buffer();
+    let n = io::read_full(0, &mut input);
+    lines(&input[..n]);
+    long_name(600);
+    long_name(3);
+    long_query(600);
+    long_query(3);
+}
