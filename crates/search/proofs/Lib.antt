@@ -8,4 +8,5 @@ pub mod Order
 pub mod Counts
 pub mod Size
 pub mod Answering
+pub mod Rows
 mod Cases

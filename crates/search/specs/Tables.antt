@@ -2,8 +2,8 @@
 -- Assumes nothing.
 use mathlib.Core.Path.{_≡_}
 use mathlib.Core.Bool.{Bool, true, false, cond, _&&_}
-use mathlib.Core.List.{List, map}
-use Prim.Native.Nat.{ℕ, _+_, _*_, _/_, _%_, _≤_, _<_}
+use mathlib.Core.List.{List, [], _∷_, _++_, map}
+use Prim.Native.Nat.{ℕ, zero, suc, _+_, _*_, _/_, _%_, _≤_, _<_}
 use lib.ListN.{length, getD, take, drop}
 use lib.Dec.{leb, ltb, eqb}
 use Rattle.laws.specs.Lists.{member, Distinct, Ascending, tabulate, sumOf}
@@ -171,3 +171,8 @@ pub record Covered (w : List ℕ) (m p q : ℕ) (features : List ℕ) (budget : 
   pub over : past ≡ ltb budget (touchesOf w m p q features)
   pub cost : past ≡ false → touches ≡ touchesOf w m p q features
   pub answers : past ≡ false → after ≡ answersTable w m p q features sizesEnd
+
+-- the places below n whose count is at least 1, in order
+unfoldable pub placesIn : List ℕ → ℕ → List ℕ
+placesIn answers zero = []
+placesIn answers (suc k) = placesIn answers k ++ cond (leb 1 (getD answers k 0)) (k ∷ []) []

@@ -1,6 +1,6 @@
 // The counted search over plain lent slices. The rule: docs/RULE.md, "The counted search"; the definitions: specs/.
 ghost use mathlib.Core.Path.{_≡_};
-ghost use mathlib.Core.List.{List, _++_};
+ghost use mathlib.Core.List.{List, _++_, map};
 ghost use Prim.Native.Nat.{ℕ, _+_, _*_, _/_, _%_, _≤_, _<_};
 ghost use lib.ListN.{length, getD, take, drop};
 ghost use lib.Dec.{eqb, leb};
@@ -12,7 +12,8 @@ ghost use Rattle.laws.specs.Below.{countBelow};
 ghost use Rattle.names.specs.Features.{mostFeatures};
 ghost use Rattle.index.specs.Good.{Good, mostNames};
 ghost use Rattle.search.specs.Method.{namesOf, sizesEnd};
-ghost use Rattle.search.specs.Tables.{Names, Named, MetBy, tallied, tested, kept, startOf, smallKey, cutAt, cutLists, Readable, remainTable, Gathered, Narrowed, nameWords, Asked, Walked, Sized, answersTable, Stepped, Covered};
+ghost use Rattle.search.specs.Tables.{Names, Named, MetBy, tallied, tested, kept, startOf, smallKey, cutAt, cutLists, Readable, remainTable, Gathered, Narrowed, nameWords, Asked, Walked, Sized, answersTable, Stepped, Covered, placesIn, idAt};
+ghost use Rattle.search.specs.Answers.{over};
 
 // What a search answers. specs/Answers.antt sets out the number and the values of each case.
 pub enum Answer {
@@ -428,5 +429,51 @@ fn all_sizes(
     Spent {
         past: false,
         touches,
+    }
+}
+
+// ---- the rows
+
+// How many of the first n places are answers.
+fn count_answers(answers: &[u32], n: usize) -> usize
+    requires { ⌜ n ≤ length (now answers) ⌝ }
+    ensures { λ r. ⌜ r ≡ length (placesIn (now (answers .entry)) n) ⌝ }
+{
+    let mut rows = 0;
+    let mut i = 0;
+    while i < n {
+        if 0 < answers[i] {
+            rows += 1;
+        }
+        i += 1;
+    }
+    rows
+}
+
+// Writes a row for each answer, in the names' order.
+fn write_rows(
+    names: &[u32],
+    answers: &[u32],
+    ids: &mut [u32],
+    shared: &mut [u32],
+    sizes: &mut [u32],
+)
+    requires { ⌜ (length (now names) ≤ length (now answers)) × (length (placesIn (now answers) (length (now names))) ≤ length (now ids)) × (length (placesIn (now answers) (length (now names))) ≤ length (now shared)) × (length (placesIn (now answers) (length (now names))) ≤ length (now sizes)) ⌝ }
+    ensures { λ _. ⌜ now (ids .exit) ≡ over (map (idAt (now (names .entry))) (placesIn (now (answers .entry)) (length (now (names .entry))))) (now (ids .entry)) ⌝ }
+    ensures { λ _. ⌜ now (shared .exit) ≡ over (map (λ (i : ℕ). getD (now (answers .entry)) i 0) (placesIn (now (answers .entry)) (length (now (names .entry))))) (now (shared .entry)) ⌝ }
+    ensures { λ _. ⌜ now (sizes .exit) ≡ over (map (λ (i : ℕ). getD (now (names .entry)) i 0 % 256) (placesIn (now (answers .entry)) (length (now (names .entry))))) (now (sizes .entry)) ⌝ }
+{
+    let mut k = 0;
+    let mut i = 0;
+    while i < names.len() {
+        let count = answers[i];
+        let name = names[i];
+        i += 1;
+        if 0 < count {
+            ids[k] = name / 256;
+            shared[k] = count;
+            sizes[k] = name % 256;
+            k += 1;
+        }
     }
 }
