@@ -9,4 +9,6 @@ pub mod Counts
 pub mod Size
 pub mod Answering
 pub mod Rows
+pub mod Whole
+pub mod Answered
 mod Cases

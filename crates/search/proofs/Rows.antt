@@ -60,3 +60,13 @@ length-overs f l s h =
     let a = length-append (map f l) (drop (length (map f l)) s) in
     let d = length-drop (length (map f l)) s in
     omega arith
+
+-- at most as many as there are names
+pub places-most : (a : List ℕ) (k : ℕ) → length (placesIn a k) ≤ k
+unfolding placesIn
+places-most a zero = omega arith
+places-most a (suc k) = by-test (leb 1 (getD a k 0)) (places-most a k)
+  where
+    by-test : (b : Bool) → length (placesIn a k) ≤ k → length (placesIn a k ++ cond b (k ∷ []) []) ≤ suc k
+    by-test true h = let e = length-append (placesIn a k) (k ∷ []) in omega arith
+    by-test false h = let e = ap length (append-nil (placesIn a k)) in omega arith

@@ -2,7 +2,7 @@
 -- Assumes nothing.
 use mathlib.Core.Bool.{Bool, cond}
 use mathlib.Core.List.{List, [], _++_, map}
-use Prim.Native.Nat.{ℕ}
+use Prim.Native.Nat.{ℕ, min}
 use lib.ListN.{length, drop}
 use lib.Dec.{ltb, eqb}
 use Rattle.names.specs.Names.{judgeOf}
@@ -69,6 +69,10 @@ module _ (query : List ℕ) (m p q allowance : ℕ) (w : List ℕ) (room : ℕ) 
 unfoldable pub givenBy : Answer → List ℕ → List ℕ
 givenBy (Found rows touches p q) places = places
 givenBy (Refused number touches) places = []
+
+-- the room lent: the least of the three columns' lengths
+abbrev pub roomOf : List ℕ → List ℕ → List ℕ → ℕ
+roomOf ids shared sizes = min (length ids) (min (length shared) (length sizes))
 
 -- a lent column afterwards: what is given, and behind it what stood there
 abbrev pub over : List ℕ → List ℕ → List ℕ

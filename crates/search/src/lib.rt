@@ -1,19 +1,20 @@
 // The counted search over plain lent slices. The rule: docs/RULE.md, "The counted search"; the definitions: specs/.
 ghost use mathlib.Core.Path.{_≡_};
 ghost use mathlib.Core.List.{List, _++_, map};
-ghost use Prim.Native.Nat.{ℕ, _+_, _*_, _/_, _%_, _≤_, _<_};
+ghost use Prim.Native.Nat.{ℕ, _+_, _*_, _/_, _%_, _≤_, _<_, min};
 ghost use lib.ListN.{length, getD, take, drop};
 ghost use lib.Dec.{eqb, leb};
 ghost use mathlib.Core.Bool.{true, cond};
-ghost use Rattle.likeness.specs.Measures.{goodMeasure};
+ghost use Rattle.likeness.specs.Measures.{goodMeasure, goodThreshold};
 ghost use Rattle.laws.specs.Lists.{Ascending, member, tabulate};
 ghost use Rattle.laws.specs.Sort.{sortOf};
 ghost use Rattle.laws.specs.Below.{countBelow};
-ghost use Rattle.names.specs.Features.{mostFeatures};
+ghost use Rattle.names.specs.Names.{judgeOf};
+ghost use Rattle.names.specs.Features.{mostFeatures, featuresOf};
 ghost use Rattle.index.specs.Good.{Good, mostNames};
-ghost use Rattle.search.specs.Method.{namesOf, sizesEnd};
+ghost use Rattle.search.specs.Method.{namesOf, sizesEnd, answersOf};
 ghost use Rattle.search.specs.Tables.{Names, Named, MetBy, tallied, tested, kept, startOf, smallKey, cutAt, cutLists, Readable, remainTable, Gathered, Narrowed, nameWords, Asked, Walked, Sized, answersTable, Stepped, Covered, placesIn, idAt};
-ghost use Rattle.search.specs.Answers.{over};
+ghost use Rattle.search.specs.Answers.{over, roomOf, givenBy, idColumn, sharedColumn, sizeColumn, refusalOf, searchGoodOf, searchOf};
 
 // What a search answers. specs/Answers.antt sets out the number and the values of each case.
 pub enum Answer {
@@ -475,5 +476,100 @@ fn write_rows(
             sizes[k] = name % 256;
             k += 1;
         }
+    }
+}
+
+// ---- the whole search
+
+// What all sizes came to, with the answers by place.
+struct Cover {
+    past: bool,
+    touches: usize,
+    answers: [u32; 256],
+}
+
+// The query's features sorted once, and all sizes.
+fn cover_sizes(
+    query: &[u8],
+    measure: u8,
+    p: u16,
+    q: u16,
+    allowance: usize,
+    words: &[u32],
+    names: &[u32],
+) -> Cover
+    requires { ⌜ Good (now words) × (now names ≡ nameWords (now words)) × (judgeOf (now query) ≡ 0) × (goodMeasure measure ≡ true) ⌝ }
+    ensures { λ r. ⌜ Covered (now (words .entry)) measure p q (sortOf (featuresOf (now (query .entry)))) allowance (r .answers) (r .past) (r .touches) ⌝ }
+{
+    let set = names::features(query);
+    let x = set.len;
+    let mut features = set.items;
+    let mut spare = [0u64; 66];
+    sorting::sort(&mut features[..x], &mut spare[..x]);
+    let mut answers = [0u32; 256];
+    let spent = all_sizes(
+        words,
+        names,
+        &features[..x],
+        measure,
+        p,
+        q,
+        allowance,
+        &mut answers,
+    );
+    Cover {
+        past: spent.past,
+        touches: spent.touches,
+        answers,
+    }
+}
+
+fn smaller(a: usize, b: usize) -> usize
+    ensures { λ r. ⌜ r ≡ min a b ⌝ }
+{
+    if a < b { a } else { b }
+}
+
+// The search of a good index with a good query, measure and threshold: 7, then 8, or the rows.
+fn run(
+    query: &[u8],
+    measure: u8,
+    p: u16,
+    q: u16,
+    allowance: u32,
+    words: &[u32],
+    ids: &mut [u32],
+    shared: &mut [u32],
+    sizes: &mut [u32],
+) -> Answer
+    requires { ⌜ Good (now words) × (judgeOf (now query) ≡ 0) × (goodMeasure measure ≡ true) × (goodThreshold p q ≡ true) ⌝ }
+    ensures { λ r. ⌜ r ≡ searchGoodOf (now (query .entry)) measure p q allowance (now (words .entry)) (roomOf (now (ids .entry)) (now (shared .entry)) (now (sizes .entry))) ⌝ }
+    ensures { λ r. ⌜ now (ids .exit) ≡ over (idColumn (now (words .entry)) (givenBy r (answersOf (now (words .entry)) measure p q (featuresOf (now (query .entry)))))) (now (ids .entry)) ⌝ }
+    ensures { λ r. ⌜ now (shared .exit) ≡ over (sharedColumn (now (words .entry)) (featuresOf (now (query .entry))) (givenBy r (answersOf (now (words .entry)) measure p q (featuresOf (now (query .entry)))))) (now (shared .entry)) ⌝ }
+    ensures { λ r. ⌜ now (sizes .exit) ≡ over (sizeColumn (now (words .entry)) (givenBy r (answersOf (now (words .entry)) measure p q (featuresOf (now (query .entry)))))) (now (sizes .entry)) ⌝ }
+{
+    let n = index::name_count(words);
+    let names = &words[3..3 + n];
+    let found = cover_sizes(query, measure, p, q, allowance as usize, words, names);
+    if found.past {
+        return Answer::Refused {
+            number: 7,
+            touches: allowance,
+        };
+    }
+    let touches = found.touches as u32;
+    let answers = found.answers;
+    let rows = count_answers(&answers, n);
+    let room = smaller(ids.len(), smaller(shared.len(), sizes.len()));
+    if room < rows {
+        return Answer::Refused { number: 8, touches };
+    }
+    write_rows(names, &answers, ids, shared, sizes);
+    let t = likeness::lowest(p, q);
+    Answer::Found {
+        rows: rows as u32,
+        touches,
+        p: t.p,
+        q: t.q,
     }
 }

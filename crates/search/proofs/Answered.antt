@@ -1,0 +1,74 @@
+-- The cases of an answer, as the definition sets them out. Cited by the proofs of `run`, `search_good` and `search`.
+-- Assumes nothing.
+use mathlib.Core.Path.{_≡_, refl, sym, ap, _∙_}
+use mathlib.Core.Bool.{true, false, cond}
+use mathlib.Core.List.{List, []}
+use Prim.Native.Nat.{ℕ, _+_, _-_}
+use native.Mathlib.Nat.{add-sub-cancel-left}
+use lib.ListN.{length, take, drop}
+use lib.Dec.{ltb, eqb}
+use borrow.Author.Tests.{eq-eqb, ne-eqb}
+use Rattle.names.specs.Names.{judgeOf}
+use Rattle.names.specs.Features.{featuresOf}
+use Rattle.likeness.specs.Measures.{goodMeasure, goodThreshold}
+use Rattle.likeness.specs.Terms.{lowestTerms}
+use Rattle.index.specs.Words.{nameCount, namesStart}
+use Rattle.index.specs.Good.{goodOf}
+use Rattle.search.specs.Method.{touchesOf, answersOf}
+use Rattle.search.specs.Tables.{nameWords}
+use Rattle.search.specs.Answers.{refusalOf, searchGoodOf, searchOf}
+use Rattle.search.specs.declared.Answer.{Answer}
+use Rattle.search.specs.declared.Answer.the-variants.{Found, Refused}
+
+-- the name words as the code cuts them
+pub names-cut : (w : List ℕ) (n : ℕ) → n ≡ nameCount w → take (3 + n - 3) (drop 3 w) ≡ nameWords w
+unfolding nameWords
+names-cut w n e = ap (λ (k : ℕ). take k (drop 3 w)) (add-sub-cancel-left 3 n ∙ e)
+
+module _ (s : List ℕ) (m p q allowance : ℕ) (w : List ℕ) (room : ℕ) where
+  pub good-past : ltb allowance (touchesOf w m p q (featuresOf s)) ≡ true → searchGoodOf s m p q allowance w room ≡ Refused 7 allowance
+  unfolding searchGoodOf
+  good-past e = rw e
+
+  pub good-full : ltb allowance (touchesOf w m p q (featuresOf s)) ≡ false → ltb room (length (answersOf w m p q (featuresOf s))) ≡ true
+      → searchGoodOf s m p q allowance w room ≡ Refused 8 (touchesOf w m p q (featuresOf s))
+  unfolding searchGoodOf
+  good-full e f = rw (e, f)
+
+  pub good-found : ltb allowance (touchesOf w m p q (featuresOf s)) ≡ false → ltb room (length (answersOf w m p q (featuresOf s))) ≡ false
+      → searchGoodOf s m p q allowance w room
+      ≡ Found (length (answersOf w m p q (featuresOf s))) (touchesOf w m p q (featuresOf s)) (lowestTerms p q .p) (lowestTerms p q .q)
+  unfolding searchGoodOf
+  good-found e f = rw (e, f)
+
+  -- refused before the search, and not
+  pub search-refused : (n : ℕ) → refusalOf s m p q w ≡ n → (n ≡ 0 → ⊥) → searchOf s m p q allowance w room ≡ Refused n 0
+  unfolding searchOf
+  search-refused n e z = rw (e, ne-eqb n 0 z)
+
+  pub search-runs : refusalOf s m p q w ≡ 0 → searchOf s m p q allowance w room ≡ searchGoodOf s m p q allowance w room
+  unfolding searchOf
+  search-runs e = rw e
+
+-- ---- the order of refusals
+
+module _ (s : List ℕ) (m p q : ℕ) (w : List ℕ) where
+  pub refusal-name : (judgeOf s ≡ 0 → ⊥) → refusalOf s m p q w ≡ judgeOf s
+  unfolding refusalOf
+  refusal-name n = rw (ne-eqb (judgeOf s) 0 n)
+
+  pub refusal-measure : judgeOf s ≡ 0 → goodMeasure m ≡ false → refusalOf s m p q w ≡ 4
+  unfolding refusalOf
+  refusal-measure n a = rw (eq-eqb (judgeOf s) 0 n, a)
+
+  pub refusal-threshold : judgeOf s ≡ 0 → goodMeasure m ≡ true → goodThreshold p q ≡ false → refusalOf s m p q w ≡ 5
+  unfolding refusalOf
+  refusal-threshold n a b = rw (eq-eqb (judgeOf s) 0 n, a, b)
+
+  pub refusal-index : judgeOf s ≡ 0 → goodMeasure m ≡ true → goodThreshold p q ≡ true → goodOf w ≡ false → refusalOf s m p q w ≡ 6
+  unfolding refusalOf
+  refusal-index n a b g = rw (eq-eqb (judgeOf s) 0 n, a, b, g)
+
+  pub refusal-none : judgeOf s ≡ 0 → goodMeasure m ≡ true → goodThreshold p q ≡ true → goodOf w ≡ true → refusalOf s m p q w ≡ 0
+  unfolding refusalOf
+  refusal-none n a b g = rw (eq-eqb (judgeOf s) 0 n, a, b, g)

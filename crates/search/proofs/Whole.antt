@@ -1,0 +1,209 @@
+-- The whole search, as the code has it, is the method's: sorted features change nothing, and the answers' table holds the rows.
+-- Cited by the proof of `run`.
+-- Assumes nothing.
+use mathlib.Core.Path.{_≡_, refl, sym, ap, ap₂, subst, _∙_}
+use mathlib.Core.Logic.{_⊎_, ⊎-elim}
+use mathlib.Core.Bool.{Bool, true, false, cond, _&&_, true≢false, false≢true}
+use mathlib.Core.List.{List, [], _∷_, _++_, map, append-nil}
+use Prim.Native.Nat.{ℕ, zero, suc, _+_, _-_, _%_, _≤_, _<_}
+use native.Mathlib.Omega.{arith}
+use lib.ListN.{length, getD, take, drop, replicate, length-append, length-replicate}
+use lib.Seq.{getD-take, getD-drop, take-append-seam}
+use lib.Dec.{leb, ltb}
+use borrow.Author.Tests.{le-leb, lt-leb, lt-ltb}
+use Rattle.laws.specs.Lists.{tabulate, Ascending}
+use Rattle.laws.specs.Each.{Each}
+use Rattle.laws.specs.Below.{sumBelow}
+use Rattle.laws.specs.Sort.{insert, sortOf}
+use Rattle.laws.proofs.Lists.{getD-tabulate}
+use Rattle.laws.proofs.Below.{sum-below-ext}
+use Rattle.laws.proofs.Members.{member-place, each-member, each-members}
+use Rattle.laws.proofs.Order.{le-or-lt, eq-or-ne}
+use Rattle.laws.proofs.Sort.{sort-nil, sort-cons, insert-met, insert-passed, insert-swap, length-sort, member-sort, ascending-sort}
+use Rattle.likeness.specs.Measures.{goodMeasure, goodThreshold, isSimilar}
+use Rattle.likeness.proofs.Measures.{similar-none}
+use Rattle.names.specs.Names.{judgeOf}
+use Rattle.names.specs.Features.{mostFeatures, characters, featuresOf}
+use Rattle.names.specs.Set.{filled}
+use Rattle.names.specs.declared.FeatureSet.{FeatureSet}
+use Rattle.names.proofs.Laws.{size-within, distinct-features, feature-fits}
+use Rattle.index.specs.Words.{nameCount, nameWord, nameId, nameSize, namesStart}
+use Rattle.index.specs.Good.{Good, mostNames}
+use Rattle.index.specs.Lists.{listIn}
+use Rattle.index.specs.Built.{featureSpan, keyOf}
+use Rattle.index.proofs.Laws.{good-name-within, good-names-most}
+use Rattle.search.specs.Method.{orderedFor, listsFor, sharedWith, sizesEnd, touchesOfSize, touchesOf, listed, answersBelow, answersOf}
+use Rattle.search.specs.Tables.{idAt, nameWords, Asked, answeredAt, answersTable, placesIn}
+use Rattle.search.proofs.Laws.{Query, listed-similar}
+use Rattle.search.proofs.Size.{length-names, id-at, asked-query}
+
+-- ---- sorted features change nothing
+
+insert-nil : (x : ℕ) → insert x [] ≡ x ∷ []
+unfolding insert
+insert-nil x = refl
+
+sort-image-insert : (g : ℕ → ℕ) (x : ℕ) (l : List ℕ) → sortOf (map g (insert x l)) ≡ insert (g x) (sortOf (map g l))
+sort-image-insert g x [] = ap (λ (r : List ℕ). sortOf (map g r)) (insert-nil x) ∙ sort-cons (g x) []
+sort-image-insert g x (y ∷ l) = by-order (le-or-lt x y) (sort-image-insert g x l)
+  where
+    by-order : (x ≤ y) ⊎ (y < x) → sortOf (map g (insert x l)) ≡ insert (g x) (sortOf (map g l)) → sortOf (map g (insert x (y ∷ l))) ≡ insert (g x) (sortOf (g y ∷ map g l))
+    by-order c h =
+        ⊎-elim
+        (λ (o : x ≤ y). ap (λ (r : List ℕ). sortOf (map g r)) (insert-met x y l o) ∙ sort-cons (g x) (g y ∷ map g l))
+        (λ (o : y < x).
+        ap (λ (r : List ℕ). sortOf (map g r)) (insert-passed x y l o)
+        ∙ sort-cons (g y) (map g (insert x l))
+        ∙ ap (insert (g y)) h
+        ∙ insert-swap (g y) (g x) (sortOf (map g l))
+        ∙ ap (insert (g x)) (sym (sort-cons (g y) (map g l))))
+        c
+
+sort-image : (g : ℕ → ℕ) (l : List ℕ) → sortOf (map g (sortOf l)) ≡ sortOf (map g l)
+sort-image g [] = ap (λ (r : List ℕ). sortOf (map g r)) sort-nil
+sort-image g (x ∷ l) =
+    ap (λ (r : List ℕ). sortOf (map g r)) (sort-cons x l)
+    ∙ sort-image-insert g x (sortOf l)
+    ∙ ap (insert (g x)) (sort-image g l)
+    ∙ sym (sort-cons (g x) (map g l))
+
+pub lists-sorted : (w : List ℕ) (y : ℕ) (f : List ℕ) → listsFor w y (sortOf f) ≡ listsFor w y f
+unfolding listsFor orderedFor
+lists-sorted w y f =
+    ap (λ (k : List ℕ). map (listIn w y) (map (λ (n : ℕ). n % featureSpan) k)) (sort-image (λ (g : ℕ). keyOf (length (listIn w y g)) g) f)
+
+pub shared-sorted : (w f : List ℕ) (i : ℕ) → sharedWith w (sortOf f) i ≡ sharedWith w f i
+unfolding sharedWith
+shared-sorted w f i = rw (lists-sorted w (nameSize w i) f)
+
+module _ (w : List ℕ) (m p q : ℕ) (f : List ℕ) where
+  size-sorted : (y : ℕ) → touchesOfSize w m p q (sortOf f) y ≡ touchesOfSize w m p q f y
+  unfolding touchesOfSize
+  size-sorted y = rw (lists-sorted w y f, length-sort f)
+
+  pub touches-sorted : touchesOf w m p q (sortOf f) ≡ touchesOf w m p q f
+  unfolding touchesOf
+  touches-sorted = sum-below-ext sizesEnd (touchesOfSize w m p q (sortOf f)) (touchesOfSize w m p q f) (λ y h. size-sorted y)
+
+  pub listed-sorted : (i : ℕ) → listed w m p q (sortOf f) i ≡ listed w m p q f i
+  unfolding listed
+  listed-sorted i = rw (lists-sorted w (nameSize w i) f, length-sort f)
+
+  below-sorted : (k : ℕ) → answersBelow w m p q (sortOf f) k ≡ answersBelow w m p q f k
+  unfolding answersBelow
+  below-sorted zero = refl
+  below-sorted (suc k) = ap₂ (λ (l : List ℕ) (b : Bool). l ++ cond b (k ∷ []) []) (below-sorted k) (listed-sorted k)
+
+  pub answers-sorted : answersOf w m p q (sortOf f) ≡ answersOf w m p q f
+  unfolding answersOf
+  answers-sorted = below-sorted (nameCount w)
+
+-- a query's features, sorted, are features as the code has them
+pub asked-of : (f : List ℕ) → Query f → length f ≤ mostFeatures → Asked (sortOf f)
+asked-of f q h =
+    record {
+      some = rw (length-sort f) (q .some);
+      few = rw (length-sort f) h;
+      rising = ascending-sort f (q .distinct);
+      small = each-members (λ (g : ℕ). g < featureSpan) (sortOf f) (λ x e. each-member (λ (g : ℕ). g < featureSpan) f (q .small) x (sym (member-sort x f) ∙ e));
+    }
+
+-- ---- the answers' table holds the rows
+
+module _ (w : List ℕ) (good : Good w) (m p q : ℕ) (known : goodMeasure m ≡ true) (exact : goodThreshold p q ≡ true) (f : List ℕ) (a : Asked f) where
+  -- an answer shares something
+  answer-shares : (i : ℕ) → i < nameCount w → listed w m p q f i ≡ true → 1 ≤ sharedWith w f i
+  answer-shares i h e =
+      let s = a .some in
+      let g = good-name-within w good i h in
+      let y = g .1 in
+      let l = listed-similar w good m p q known exact f (asked-query f a) i h in
+      ⊎-elim
+      (λ (z : sharedWith w f i ≡ 0).
+      absurd (true≢false (sym e ∙ l ∙ ap (isSimilar m p q (length f) (nameSize w i)) z ∙ similar-none m p q (length f) (nameSize w i) (omega arith) (omega arith))))
+      (λ (z : sharedWith w f i ≡ 0 → ⊥). omega arith)
+      (eq-or-ne (sharedWith w f i) 0)
+
+  pub answer-at : (i : ℕ) → i < nameCount w → getD (answersTable w m p q f sizesEnd) i 0 ≡ cond (listed w m p q f i) (sharedWith w f i) 0
+  unfolding answersTable answeredAt
+  answer-at i h =
+      let n = good-names-most w good in
+      let g = good-name-within w good i h in
+      let y = g .2 in
+      getD-tabulate (λ (j : ℕ). cond (ltb j (nameCount w) && (ltb (nameSize w j) sizesEnd && listed w m p q f j)) (sharedWith w f j) 0) mostNames i 0 (omega arith)
+      ∙ (rw (lt-ltb i (nameCount w) h, lt-ltb (nameSize w i) sizesEnd (omega arith)))
+
+  listed-at : (i : ℕ) → i < nameCount w → leb 1 (getD (answersTable w m p q f sizesEnd) i 0) ≡ listed w m p q f i
+  listed-at i h = ap (leb 1) (answer-at i h) ∙ by-test (listed w m p q f i) refl
+    where
+      by-test : (b : Bool) → listed w m p q f i ≡ b → leb 1 (cond b (sharedWith w f i) 0) ≡ b
+      by-test true e = le-leb 1 (sharedWith w f i) (answer-shares i h e)
+      by-test false e = refl
+
+  places-below : (k : ℕ) → k ≤ nameCount w → placesIn (answersTable w m p q f sizesEnd) k ≡ answersBelow w m p q f k
+  unfolding placesIn answersBelow
+  places-below zero h = refl
+  places-below (suc k) h = ap₂ (λ (l : List ℕ) (b : Bool). l ++ cond b (k ∷ []) []) (places-below k (omega arith)) (listed-at k h)
+
+  pub places-answers : placesIn (answersTable w m p q f sizesEnd) (nameCount w) ≡ answersOf w m p q f
+  unfolding answersOf
+  places-answers = places-below (nameCount w) (omega arith)
+
+  map-snoc : (g : ℕ → ℕ) (l : List ℕ) (b : Bool) (k : ℕ) → map g (l ++ cond b (k ∷ []) []) ≡ map g l ++ cond b (g k ∷ []) []
+  map-snoc g [] true k = refl
+  map-snoc g [] false k = refl
+  map-snoc g (x ∷ l) b k = ap (λ (r : List ℕ). g x ∷ r) (map-snoc g l b k)
+
+  -- columns that agree at each answer
+  column-below : (g h : ℕ → ℕ) → ((i : ℕ) → i < nameCount w → listed w m p q f i ≡ true → g i ≡ h i) → (k : ℕ) → k ≤ nameCount w
+      → map g (answersBelow w m p q f k) ≡ map h (answersBelow w m p q f k)
+  unfolding answersBelow
+  column-below g h e zero l = refl
+  column-below g h e (suc k) l =
+      map-snoc g (answersBelow w m p q f k) (listed w m p q f k) k
+      ∙ ap₂ (λ (x y : List ℕ). x ++ y) (column-below g h e k (omega arith)) (by-test (listed w m p q f k) refl)
+      ∙ sym (map-snoc h (answersBelow w m p q f k) (listed w m p q f k) k)
+    where
+      by-test : (b : Bool) → listed w m p q f k ≡ b → cond b (g k ∷ []) [] ≡ cond b (h k ∷ []) []
+      by-test true c = ap (λ (n : ℕ). n ∷ []) (e k l c)
+      by-test false c = refl
+
+  pub column-answers : (g h : ℕ → ℕ) → ((i : ℕ) → i < nameCount w → listed w m p q f i ≡ true → g i ≡ h i)
+      → map g (answersOf w m p q f) ≡ map h (answersOf w m p q f)
+  unfolding answersOf
+  column-answers g h e = column-below g h e (nameCount w) (omega arith)
+
+  pub shared-column : map (λ (i : ℕ). getD (answersTable w m p q f sizesEnd) i 0) (answersOf w m p q f) ≡ map (sharedWith w f) (answersOf w m p q f)
+  shared-column = column-answers (λ (i : ℕ). getD (answersTable w m p q f sizesEnd) i 0) (sharedWith w f) (λ i h e. answer-at i h ∙ (rw e))
+
+  pub id-column : map (idAt (nameWords w)) (answersOf w m p q f) ≡ map (nameId w) (answersOf w m p q f)
+  id-column = column-answers (idAt (nameWords w)) (nameId w) (λ i h e. id-at w good i h)
+
+  pub size-column : map (λ (i : ℕ). getD (nameWords w) i 0 % 256) (answersOf w m p q f) ≡ map (nameSize w) (answersOf w m p q f)
+  size-column =
+      column-answers (λ (i : ℕ). getD (nameWords w) i 0 % 256) (nameSize w)
+      (λ i h e. unfold nameWords nameSize nameWord in (ap (λ (x : ℕ). x % 256) (getD-take (nameCount w) (drop namesStart w) i 0 h ∙ getD-drop namesStart w i 0)))
+
+-- ---- the query's features in the set
+
+pub filled-facts : (r : FeatureSet) (f : List ℕ) → r ≡ filled f → length f ≤ mostFeatures
+    → (r .len ≡ length f) × (take (r .len) (r .items) ≡ f) × (length (r .items) ≡ 66)
+filled-facts r f e h =
+    let n : r .len ≡ length f = ap (λ (s : FeatureSet). s .len) e in
+    let i : r .items ≡ f ++ replicate (mostFeatures - length f) 0 = ap (λ (s : FeatureSet). s .items) e in (
+      n,
+      ap₂ (λ (k : ℕ) (l : List ℕ). take k l) n i ∙ take-append-seam f (replicate (mostFeatures - length f) 0),
+      ap length i ∙ length-append f (replicate (mostFeatures - length f) 0) ∙ (let z = length-replicate {A = ℕ} (mostFeatures - length f) 0 in let q : length f + length {A = ℕ} (replicate (mostFeatures - length f) 0) ≡ 66 = omega arith in q),
+    )
+
+-- a good query, as the laws ask it
+pub query-features : (s : List ℕ) → judgeOf s ≡ 0 → ((j : ℕ) → getD s j 0 < characters) → Query (featuresOf s)
+query-features s g b =
+    record {
+      some = (let h = size-within s g .0 in omega arith);
+      distinct = distinct-features s;
+      small = each-of (λ (f : ℕ). f < featureSpan) (featuresOf s) (λ i h. feature-fits s b i);
+    }
+  where
+    each-of : (P : ℕ → Type 0) (l : List ℕ) → ((i : ℕ) → i < length l → P (getD l i 0)) → Each P l
+    each-of P l h = each-members P l (λ x m. let p = member-place x l m in subst P (p .2) (h (p .0) (p .1)))
