@@ -40,13 +40,16 @@ abbrev pub thresholdQ : Answer → ℕ
 thresholdQ (Found rows touches p q) = q
 thresholdQ (Refused number touches) = 0
 
--- ---- what is judged before the search: 1, 2, 3, then 4, 5, 6; 0 where nothing is refused
+-- ---- what is judged before the search: the query's 1, 2, 3, then 4, 5, then the index's 6; 0 where nothing is refused
+
+unfoldable pub questionOf : List ℕ → ℕ → ℕ → ℕ → ℕ
+questionOf query m p q =
+    cond (eqb (judgeOf query) 0)
+    (cond (goodMeasure m) (cond (goodThreshold p q) 0 5) 4)
+    (judgeOf query)
 
 unfoldable pub refusalOf : List ℕ → ℕ → ℕ → ℕ → List ℕ → ℕ
-refusalOf query m p q w =
-    cond (eqb (judgeOf query) 0)
-    (cond (goodMeasure m) (cond (goodThreshold p q) (cond (goodOf w) 0 6) 5) 4)
-    (judgeOf query)
+refusalOf query m p q w = cond (eqb (questionOf query m p q) 0) (cond (goodOf w) 0 6) (questionOf query m p q)
 
 -- ---- the search of a good index: 7 where the touches exceed the allowance, then 8 where the answers exceed the room
 

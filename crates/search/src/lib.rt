@@ -14,7 +14,7 @@ ghost use Rattle.names.specs.Features.{mostFeatures, featuresOf};
 ghost use Rattle.index.specs.Good.{Good, mostNames};
 ghost use Rattle.search.specs.Method.{namesOf, sizesEnd, answersOf};
 ghost use Rattle.search.specs.Tables.{Names, Named, MetBy, tallied, tested, kept, startOf, smallKey, cutAt, cutLists, Readable, remainTable, Gathered, Narrowed, nameWords, Asked, Walked, Sized, answersTable, Stepped, Covered, placesIn, idAt};
-ghost use Rattle.search.specs.Answers.{over, roomOf, givenBy, idColumn, sharedColumn, sizeColumn, refusalOf, searchGoodOf, searchOf};
+ghost use Rattle.search.specs.Answers.{over, roomOf, givenBy, idColumn, sharedColumn, sizeColumn, questionOf, searchGoodOf, searchOf};
 
 // What a search answers. specs/Answers.antt sets out the number and the values of each case.
 pub enum Answer {
@@ -572,4 +572,76 @@ fn run(
         p: t.p,
         q: t.q,
     }
+}
+
+// What the query, the measure and the threshold are refused with, in that order; 0 where nothing is.
+fn question(query: &[u8], measure: u8, p: u16, q: u16) -> u8
+    ensures { λ r. ⌜ r ≡ questionOf (now (query .entry)) measure p q ⌝ }
+{
+    let number = names::judge(query);
+    if number != 0 {
+        return number;
+    }
+    if !likeness::good_measure(measure) {
+        return 4;
+    }
+    if !likeness::good_threshold(p, q) {
+        return 5;
+    }
+    0
+}
+
+// The search of words that index::good has passed.
+pub fn search_good(
+    query: &[u8],
+    measure: u8,
+    p: u16,
+    q: u16,
+    allowance: u32,
+    words: &[u32],
+    ids: &mut [u32],
+    shared: &mut [u32],
+    sizes: &mut [u32],
+) -> Answer
+    requires { ⌜ Good (now words) ⌝ }
+    ensures { λ r. ⌜ r ≡ searchOf (now (query .entry)) measure p q allowance (now (words .entry)) (roomOf (now (ids .entry)) (now (shared .entry)) (now (sizes .entry))) ⌝ }
+    ensures { λ r. ⌜ now (ids .exit) ≡ over (idColumn (now (words .entry)) (givenBy r (answersOf (now (words .entry)) measure p q (featuresOf (now (query .entry)))))) (now (ids .entry)) ⌝ }
+    ensures { λ r. ⌜ now (shared .exit) ≡ over (sharedColumn (now (words .entry)) (featuresOf (now (query .entry))) (givenBy r (answersOf (now (words .entry)) measure p q (featuresOf (now (query .entry)))))) (now (shared .entry)) ⌝ }
+    ensures { λ r. ⌜ now (sizes .exit) ≡ over (sizeColumn (now (words .entry)) (givenBy r (answersOf (now (words .entry)) measure p q (featuresOf (now (query .entry)))))) (now (sizes .entry)) ⌝ }
+{
+    let number = question(query, measure, p, q);
+    if number != 0 {
+        return Answer::Refused { number, touches: 0 };
+    }
+    run(query, measure, p, q, allowance, words, ids, shared, sizes)
+}
+
+// The search of any words.
+pub fn search(
+    query: &[u8],
+    measure: u8,
+    p: u16,
+    q: u16,
+    allowance: u32,
+    words: &[u32],
+    ids: &mut [u32],
+    shared: &mut [u32],
+    sizes: &mut [u32],
+) -> Answer
+    ensures { λ r. ⌜ r ≡ searchOf (now (query .entry)) measure p q allowance (now (words .entry)) (roomOf (now (ids .entry)) (now (shared .entry)) (now (sizes .entry))) ⌝ }
+    ensures { λ r. ⌜ now (ids .exit) ≡ over (idColumn (now (words .entry)) (givenBy r (answersOf (now (words .entry)) measure p q (featuresOf (now (query .entry)))))) (now (ids .entry)) ⌝ }
+    ensures { λ r. ⌜ now (shared .exit) ≡ over (sharedColumn (now (words .entry)) (featuresOf (now (query .entry))) (givenBy r (answersOf (now (words .entry)) measure p q (featuresOf (now (query .entry)))))) (now (shared .entry)) ⌝ }
+    ensures { λ r. ⌜ now (sizes .exit) ≡ over (sizeColumn (now (words .entry)) (givenBy r (answersOf (now (words .entry)) measure p q (featuresOf (now (query .entry)))))) (now (sizes .entry)) ⌝ }
+{
+    let number = question(query, measure, p, q);
+    if number != 0 {
+        return Answer::Refused { number, touches: 0 };
+    }
+    if !index::good(words) {
+        return Answer::Refused {
+            number: 6,
+            touches: 0,
+        };
+    }
+    run(query, measure, p, q, allowance, words, ids, shared, sizes)
 }
