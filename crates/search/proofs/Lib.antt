@@ -11,4 +11,3 @@ pub mod Answering
 pub mod Rows
 pub mod Whole
 pub mod Answered
-mod Cases

@@ -2,12 +2,25 @@
 -- Assumes nothing.
 use mathlib.Core.Path.{_≡_, refl}
 use mathlib.Core.Bool.{true}
-use Rattle.laws.specs.Lists.{member, countOf, tabulate}
+use Rattle.laws.specs.Lists.{member, countOf, tabulate, sumOf}
+use Rattle.laws.specs.Below.{allBelow, anyBelow, sumBelow}
+use Rattle.laws.specs.First.{firstFrom}
+use Rattle.laws.specs.Sort.{insert, sortOf}
 use Rattle.names.specs.Names.{judgeOf}
 use Rattle.names.specs.Features.{padded, joined, gramAt, timesIn, numberAt, numbered, featuresBy, featuresOf}
 use Rattle.names.specs.Shared.{sharedOf}
+use Rattle.likeness.specs.Measures.{measureOf, goodMeasure, goodThreshold, reaches, isSimilar}
+use Rattle.likeness.specs.Sizes.{beside, mayReach, isSearched}
+use Rattle.likeness.specs.Least.{leastCount}
+use Rattle.likeness.specs.Terms.{divisorF, divisorOf, lowestTerms}
+use Rattle.index.specs.Words.{nameWord, nameId, nameSize, rowSize, rowFeature, rowPlace, rowLength, posting, listAt}
+use Rattle.index.specs.Good.{headGood, nameGood, namesGood, rowBefore, placeDue, rowGood, rowsGood, isName, listGood, listsWith, listsGood, goodOf}
+use Rattle.index.specs.Lists.{rowIs, rowFor, listIn}
+use Rattle.index.specs.Built.{triplesOf, allTriples, joinRow, runsOf, listsOf, rowWords, wordsFrom, rowsOf, wordsOf}
+use Rattle.search.specs.Method.{orderedFor, listsFor, heldBy, signaturePostings, remains, remaining, touchesAt, sharedWith, touchesOfSize, touchesOf, listed, answersBelow, answersOf}
+use Rattle.search.specs.Answers.{questionOf, refusalOf, searchGoodOf, searchOf}
 use Rattle.statements.specs.Figures.{figures, allRight}
 
 pub figures-right : allRight figures ≡ true
-unfolding allRight member countOf tabulate judgeOf padded joined gramAt timesIn numberAt numbered featuresBy featuresOf sharedOf
+unfolding allRight goodOf headGood nameGood namesGood rowBefore placeDue rowGood rowsGood isName listGood listsWith listsGood nameWord nameId nameSize rowSize rowFeature rowPlace rowLength posting listAt triplesOf allTriples joinRow runsOf listsOf rowWords wordsFrom rowsOf wordsOf insert sortOf member countOf tabulate allBelow anyBelow sumBelow judgeOf padded joined gramAt timesIn numberAt numbered featuresBy featuresOf sharedOf sumOf firstFrom measureOf goodMeasure goodThreshold reaches isSimilar beside mayReach isSearched leastCount rowIs rowFor listIn orderedFor listsFor heldBy signaturePostings remains remaining touchesAt sharedWith touchesOfSize touchesOf listed answersBelow answersOf divisorF divisorOf lowestTerms questionOf refusalOf searchGoodOf searchOf
 figures-right = refl

@@ -1,13 +1,19 @@
 -- The worked figures of the rule, as one table: what the definitions give, and what it should be.
 -- Proved together in proofs/Figures.antt. A new figure is one more row here.
 -- Assumes nothing.
-use mathlib.Core.Bool.{Bool, true, false, _&&_}
+use mathlib.Core.Bool.{Bool, true, false, _&&_, cond}
 use mathlib.Core.List.{List, [], _∷_}
 use Prim.Native.Nat.{ℕ}
 use lib.ListN.{length}
 use lib.Dec.{eqb}
 use Rattle.names.specs.Features.{featuresOf}
 use Rattle.names.specs.Shared.{sharedOf}
+use Rattle.likeness.specs.Measures.{isSimilar}
+use Rattle.likeness.specs.Sizes.{isSearched}
+use Rattle.likeness.specs.Least.{leastCount}
+use Rattle.index.specs.Built.{Entry, wordsOf}
+use Rattle.search.specs.Method.{sharedWith, touchesOfSize, touchesOf, answersOf}
+use Rattle.search.specs.Answers.{numberIn, searchOf}
 
 -- ---- the names of the figures
 
@@ -26,6 +32,25 @@ aaa = 65 ∷ 65 ∷ 65 ∷ []
 abbrev pub aaaa : List ℕ
 aaaa = 65 ∷ 65 ∷ 65 ∷ 65 ∷ []
 
+abbrev pub ab : List ℕ
+ab = 65 ∷ 66 ∷ []
+
+abbrev pub ac : List ℕ
+ac = 65 ∷ 67 ∷ []
+
+-- ---- the indexes of the figures
+
+abbrev pub entry : ℕ → List ℕ → Entry
+entry i name = record { id = i; features = featuresOf name }
+
+-- LANE, LANES and PLANE under ids 10, 11 and 12
+abbrev pub lanesIndex : List ℕ
+lanesIndex = wordsOf (entry 10 lane ∷ entry 11 lanes ∷ entry 12 plane ∷ [])
+
+-- the sole name AC
+abbrev pub acIndex : List ℕ
+acIndex = wordsOf (entry 1 ac ∷ [])
+
 -- ---- the table
 
 -- a figure: what is computed, and what it should be
@@ -41,6 +66,36 @@ shares a b n = record { is = sharedOf (featuresOf a) (featuresOf b); should = n 
 abbrev pub sized : List ℕ → ℕ → Figure
 sized a n = record { is = length (featuresOf a); should = n }
 
+-- 1 where the measure finds s shared features of the sizes x and y enough for p/q, 0 where it doesn't
+abbrev pub alike : ℕ → ℕ → ℕ → ℕ → ℕ → ℕ → ℕ → Figure
+alike m p q x y s n = record { is = cond (isSimilar m p q x y s) 1 0; should = n }
+
+-- the least count of a query of x features and a name of y
+abbrev pub least : ℕ → ℕ → ℕ → ℕ → ℕ → ℕ → Figure
+least m p q x y n = record { is = leastCount m p q x y; should = n }
+
+-- 1 where size y is searched for a query of x features, 0 where it isn't
+abbrev pub searchedAt : ℕ → ℕ → ℕ → ℕ → ℕ → ℕ → Figure
+searchedAt m p q x y n = record { is = cond (isSearched m p q x y) 1 0; should = n }
+
+-- the touches of one size, and of all
+abbrev pub touchesAtSize : List ℕ → ℕ → ℕ → ℕ → List ℕ → ℕ → ℕ → Figure
+touchesAtSize w m p q query y n = record { is = touchesOfSize w m p q (featuresOf query) y; should = n }
+
+abbrev pub touches : List ℕ → ℕ → ℕ → ℕ → List ℕ → ℕ → Figure
+touches w m p q query n = record { is = touchesOf w m p q (featuresOf query); should = n }
+
+-- how many names are listed, and how many features the name at a place shares
+abbrev pub lists : List ℕ → ℕ → ℕ → ℕ → List ℕ → ℕ → Figure
+lists w m p q query n = record { is = length (answersOf w m p q (featuresOf query)); should = n }
+
+abbrev pub sharesAt : List ℕ → List ℕ → ℕ → ℕ → Figure
+sharesAt w query i n = record { is = sharedWith w (featuresOf query) i; should = n }
+
+-- the number of a search with an allowance and room for three rows, 0 where it is answered
+abbrev pub answers : List ℕ → ℕ → ℕ → ℕ → List ℕ → ℕ → ℕ → Figure
+answers w m p q query allowance n = record { is = numberIn (searchOf query m p q allowance w 3); should = n }
+
 abbrev pub figures : List Figure
 figures =
     sized lane 6
@@ -51,6 +106,26 @@ figures =
     ∷ sized aaa 5
     ∷ sized aaaa 6
     ∷ shares aaa aaaa 5
+    ∷ alike 1 8 13 6 7 4 1
+    ∷ alike 1 9 13 6 7 4 0
+    ∷ alike 2 4 9 6 7 4 1
+    ∷ alike 3 617 1000 6 7 4 1
+    ∷ alike 3 618 1000 6 7 4 0
+    ∷ alike 4 2 3 6 7 4 1
+    ∷ least 3 7 10 8 9 6
+    ∷ searchedAt 3 7 10 8 3 0
+    ∷ searchedAt 3 7 10 8 4 1
+    ∷ searchedAt 3 7 10 8 16 1
+    ∷ searchedAt 3 7 10 8 17 0
+    ∷ lists acIndex 1 1 4 ab 1
+    ∷ sharesAt acIndex ab 0 1
+    ∷ touches acIndex 1 1 4 ab 1
+    ∷ touchesAtSize lanesIndex 1 8 13 lane 6 6
+    ∷ touchesAtSize lanesIndex 1 8 13 lane 7 9
+    ∷ touches lanesIndex 1 8 13 lane 15
+    ∷ lists lanesIndex 1 8 13 lane 3
+    ∷ answers lanesIndex 1 8 13 lane 15 0
+    ∷ answers lanesIndex 1 8 13 lane 14 7
     ∷ []
 
 -- every figure is what it should be; so of no figures
