@@ -28,18 +28,18 @@ use Rattle.frames.proofs.Laws.{read-write, write-reading, kind-unique}
 -- ---- what fits
 
 -- the fields of a layout with a name, and any name of at most 255 bytes
-with-name : (y : Layout) (f name : List ℕ) → y .named ≡ true → y .kind < 256 → FieldsFit (y .widths) f → Bytes name → length name ≤ 255 → Fitting y f name
-with-name y f name n k h b s = record { kind = k; fields = h; bytes = b; short = s; plain = λ e. absurd (true≢false (sym n ∙ e)) }
+pub fitting-named : (y : Layout) (f name : List ℕ) → y .named ≡ true → y .kind < 256 → FieldsFit (y .widths) f → Bytes name → length name ≤ 255 → Fitting y f name
+fitting-named y f name n k h b s = record { kind = k; fields = h; bytes = b; short = s; plain = λ e. absurd (true≢false (sym n ∙ e)) }
 
 -- the fields of a layout without one
-without : (y : Layout) (f : List ℕ) → y .kind < 256 → FieldsFit (y .widths) f → Fitting y f []
-without y f k h = record { kind = k; fields = h; bytes = λ i. omega arith; short = omega arith; plain = λ e. refl }
+pub fitting-plain : (y : Layout) (f : List ℕ) → y .kind < 256 → FieldsFit (y .widths) f → Fitting y f []
+fitting-plain y f k h = record { kind = k; fields = h; bytes = λ i. omega arith; short = omega arith; plain = λ e. refl }
 
 -- ---- writing and then reading
 
 pub read-write-name : (id : ℕ) (name : List ℕ) (room : ℕ) → id < 65536 → Bytes name → length name ≤ 255 → length name ≤ room
     → readOf nameFrame (lineOf nameFrame (id ∷ []) name) room ≡ nameOut (record { number = 0; id = id; len = length name })
-read-write-name id name room i b h r = read-write nameFrame (id ∷ []) name (with-name nameFrame (id ∷ []) name refl (omega arith) (i, tt) b h) room r
+read-write-name id name room i b h r = read-write nameFrame (id ∷ []) name (fitting-named nameFrame (id ∷ []) name refl (omega arith) (i, tt) b h) room r
 
 pub read-write-query : (measure p q allowance : ℕ) (query : List ℕ) (room : ℕ) → measure < 256 → p < 65536 → q < 65536 → allowance < 4294967296
     → Bytes query → length query ≤ 255 → length query ≤ room
@@ -47,25 +47,25 @@ pub read-write-query : (measure p q allowance : ℕ) (query : List ℕ) (room : 
     ≡ queryOut (record { number = 0; measure = measure; p = p; q = q; allowance = allowance; len = length query })
 read-write-query measure p q allowance query room i j k a b h r =
     let f : List ℕ = measure ∷ p ∷ q ∷ allowance ∷ [] in
-    read-write queryFrame f query (with-name queryFrame f query refl (omega arith) (i, (j, (k, (a, tt)))) b h) room r
+    read-write queryFrame f query (fitting-named queryFrame f query refl (omega arith) (i, (j, (k, (a, tt)))) b h) room r
 
 pub read-write-row : (id shared size : ℕ) → id < 65536 → shared < 256 → size < 256
     → readOf rowFrame (lineOf rowFrame (id ∷ shared ∷ size ∷ []) []) 0 ≡ rowOut (Row id shared size)
 read-write-row id shared size i j k =
     let f : List ℕ = id ∷ shared ∷ size ∷ [] in
-    read-write rowFrame f [] (without rowFrame f (omega arith) (i, (j, (k, tt)))) 0 (omega arith)
+    read-write rowFrame f [] (fitting-plain rowFrame f (omega arith) (i, (j, (k, tt)))) 0 (omega arith)
 
 pub read-write-end : (rows touches p q : ℕ) → rows < 65536 → touches < 4294967296 → p < 65536 → q < 65536
     → readOf endFrame (lineOf endFrame (rows ∷ touches ∷ p ∷ q ∷ []) []) 0 ≡ endOut (End rows touches p q)
 read-write-end rows touches p q i j k m =
     let f : List ℕ = rows ∷ touches ∷ p ∷ q ∷ [] in
-    read-write endFrame f [] (without endFrame f (omega arith) (i, (j, (k, (m, tt))))) 0 (omega arith)
+    read-write endFrame f [] (fitting-plain endFrame f (omega arith) (i, (j, (k, (m, tt))))) 0 (omega arith)
 
 pub read-write-refusal : (number touches : ℕ) → number < 256 → touches < 4294967296
     → readOf refusalFrame (lineOf refusalFrame (number ∷ touches ∷ []) []) 0 ≡ refusalOut (Refusal number touches)
 read-write-refusal number touches i j =
     let f : List ℕ = number ∷ touches ∷ [] in
-    read-write refusalFrame f [] (without refusalFrame f (omega arith) (i, (j, tt))) 0 (omega arith)
+    read-write refusalFrame f [] (fitting-plain refusalFrame f (omega arith) (i, (j, tt))) 0 (omega arith)
 
 -- ---- reading and then writing
 

@@ -1,6 +1,6 @@
 // Shows what each of the five readers makes of lines good and damaged, and what the writers make of what was read.
 // In the input a bar stands behind each line, so that a line may lack its line feed or have two.
-// The file stdout was made by a second program, in another language, from the rule of the frames alone (docs/RULE.md).
+// vectors.py, beside src/, made the files stdin and stdout from the rule of the frames alone; it shares nothing with the crates.
 use frames::EndRead;
 use frames::NameRead;
 use frames::QueryRead;
@@ -83,17 +83,40 @@ fn put_refusal(room: usize, no: u8, touches: u32) {
     }
 }
 
+fn four(a: u64, b: u64, c: u64, d: u64) {
+    number(a);
+    number(b);
+    number(c);
+    number(d);
+}
+
+// The buffer that a reader was lent, as it left it.
+fn buffer(len: usize, small: [u8; 8]) {
+    number(len as u64);
+    text(b" ");
+    text(&small);
+    text(b"\n");
+}
+
+fn show_name(r: NameRead, small: [u8; 8]) {
+    text(b"4E");
+    number(r.number as u64);
+    number(r.id as u64);
+    buffer(r.len, small);
+}
+
+fn show_query(r: QueryRead, small: [u8; 8]) {
+    text(b"51");
+    number(r.number as u64);
+    four(r.measure as u64, r.p as u64, r.q as u64, r.allowance as u64);
+    buffer(r.len, small);
+}
+
 // A name is read into 8 bytes, and again into 255 for the writer, which is lent the line's length and then one byte less.
 fn name(line: &[u8]) {
     let mut small = [46u8; 8];
     let r = frames::read_name(line, &mut small);
-    text(b"4E");
-    number(r.number as u64);
-    number(r.id as u64);
-    number(r.len as u64);
-    text(b" ");
-    text(&small);
-    text(b"\n");
+    show_name(r, small);
     let mut large = [46u8; 255];
     let s = frames::read_name(line, &mut large);
     let n = line.len();
@@ -106,16 +129,7 @@ fn name(line: &[u8]) {
 fn query(line: &[u8]) {
     let mut small = [46u8; 8];
     let r = frames::read_query(line, &mut small);
-    text(b"51");
-    number(r.number as u64);
-    number(r.measure as u64);
-    number(r.p as u64);
-    number(r.q as u64);
-    number(r.allowance as u64);
-    number(r.len as u64);
-    text(b" ");
-    text(&small);
-    text(b"\n");
+    show_query(r, small);
     let mut large = [46u8; 255];
     let s = frames::read_query(line, &mut large);
     let n = line.len();
@@ -125,22 +139,21 @@ fn query(line: &[u8]) {
     }
 }
 
+fn malformed() {
+    number(11);
+    text(b"\n");
+}
+
 fn row(line: &[u8]) {
     text(b"52");
     match frames::read_row(line) {
         RowRead::Row { id, shared, size } => {
-            number(0);
-            number(id as u64);
-            number(shared as u64);
-            number(size as u64);
+            four(0, id as u64, shared as u64, size as u64);
             text(b"\n");
             put_row(11, id, shared, size);
             put_row(10, id, shared, size);
         }
-        RowRead::Malformed => {
-            number(11);
-            text(b"\n");
-        }
+        RowRead::Malformed => malformed(),
     }
 }
 
@@ -154,18 +167,12 @@ fn end(line: &[u8]) {
             q,
         } => {
             number(0);
-            number(rows as u64);
-            number(touches as u64);
-            number(p as u64);
-            number(q as u64);
+            four(rows as u64, touches as u64, p as u64, q as u64);
             text(b"\n");
             put_end(23, rows, touches, p, q);
             put_end(22, rows, touches, p, q);
         }
-        EndRead::Malformed => {
-            number(11);
-            text(b"\n");
-        }
+        EndRead::Malformed => malformed(),
     }
 }
 
@@ -183,10 +190,7 @@ fn refusal(line: &[u8]) {
             put_refusal(13, no, touches);
             put_refusal(12, no, touches);
         }
-        RefusalRead::Malformed => {
-            number(11);
-            text(b"\n");
-        }
+        RefusalRead::Malformed => malformed(),
     }
 }
 
