@@ -4,3 +4,5 @@ pub mod Over
 pub mod Judging
 pub mod Taking
 pub mod Ending
+pub mod Laws
+mod Cases
