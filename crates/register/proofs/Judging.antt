@@ -1,0 +1,114 @@
+-- A line judged: each number from the tests that lead to it, and what a good line is.
+-- Assumes nothing.
+use mathlib.Core.Path.{_≡_, refl, sym, ap, _∙_}
+use mathlib.Core.Bool.{Bool, true, false, cond, not}
+use mathlib.Core.List.{List, _++_}
+use Prim.Native.Nat.{ℕ, _≤_, _<_}
+use native.Mathlib.Omega.{arith}
+use borrow.Author.Tests.{eq-eqb, ne-eqb, lt-ltb, le-ltb, le-leb, lt-leb, eqb-true, eqb-false, ltb-false, leb-false}
+use lib.ListN.{length, getD, take, drop, length-append, length-drop}
+use lib.Seq.{take-append-seam}
+use lib.Dec.{eqb, ltb, leb}
+use Rattle.names.specs.Names.{judgeOf}
+use Rattle.frames.specs.declared.NameRead.{NameRead}
+use Rattle.frames.specs.declared.Reading.{Reading}
+use Rattle.frames.specs.Layouts.{isFrame, readOf, bufferOf, acceptedAs, refusedWith}
+use Rattle.frames.specs.Frames.{nameFrame, nameOut}
+use Rattle.frames.proofs.Laws.{read-roomy, read-fits}
+use Rattle.index.specs.Good.{mostNames}
+use Rattle.register.specs.Build.{idIn, nameOf, judgeLine}
+use Rattle.register.specs.Steps.{Heard}
+
+-- ---- the number of a line
+
+pub judged-malformed : (count next : ℕ) (line : List ℕ) → isFrame nameFrame line ≡ false → judgeLine count next line ≡ 11
+unfolding judgeLine
+judged-malformed count next line e = rw e
+
+module _ (count next : ℕ) (line : List ℕ) (frame : isFrame nameFrame line ≡ true) where
+  pub judged-name : (judgeOf (nameOf line) ≡ 0 → ⊥) → judgeLine count next line ≡ judgeOf (nameOf line)
+  unfolding judgeLine
+  judged-name n = rw (frame, ne-eqb (judgeOf (nameOf line)) 0 n)
+
+  pub judged-id : judgeOf (nameOf line) ≡ 0 → idIn line < next → judgeLine count next line ≡ 9
+  unfolding judgeLine
+  judged-id g h = rw (frame, eq-eqb (judgeOf (nameOf line)) 0 g, lt-ltb (idIn line) next h)
+
+  pub judged-count : judgeOf (nameOf line) ≡ 0 → next ≤ idIn line → mostNames ≤ count → judgeLine count next line ≡ 10
+  unfolding judgeLine
+  judged-count g h m = rw (frame, eq-eqb (judgeOf (nameOf line)) 0 g, le-ltb (idIn line) next h, le-leb mostNames count m)
+
+  pub judged-good : judgeOf (nameOf line) ≡ 0 → next ≤ idIn line → count < mostNames → judgeLine count next line ≡ 0
+  unfolding judgeLine
+  judged-good g h m = rw (frame, eq-eqb (judgeOf (nameOf line)) 0 g, le-ltb (idIn line) next h, lt-leb mostNames count m)
+
+-- what a line that is judged 0 is
+pub good-line : (count next : ℕ) (line : List ℕ) → judgeLine count next line ≡ 0
+    → (isFrame nameFrame line ≡ true) × (judgeOf (nameOf line) ≡ 0) × (next ≤ idIn line) × (count < mostNames)
+unfolding judgeLine
+good-line count next line z =
+    by-tests (isFrame nameFrame line) refl (eqb (judgeOf (nameOf line)) 0) refl (ltb (idIn line) next) refl (leb mostNames count) refl z
+  where
+    by-tests : (a : Bool) → isFrame nameFrame line ≡ a → (b : Bool) → eqb (judgeOf (nameOf line)) 0 ≡ b → (c : Bool) → ltb (idIn line) next ≡ c
+        → (d : Bool) → leb mostNames count ≡ d
+        → cond (not a) 11 (cond (not b) (judgeOf (nameOf line)) (cond c 9 (cond d 10 0))) ≡ 0
+        → (isFrame nameFrame line ≡ true) × (judgeOf (nameOf line) ≡ 0) × (next ≤ idIn line) × (count < mostNames)
+    by-tests false p b q c r d s z = absurd (omega arith)
+    by-tests true p false q c r d s z = absurd (eqb-false (judgeOf (nameOf line)) 0 q z)
+    by-tests true p true q true r d s z = absurd (omega arith)
+    by-tests true p true q false r true s z = absurd (omega arith)
+    by-tests true p true q false r false s z =
+        (p, eqb-true (judgeOf (nameOf line)) 0 q, ltb-false (idIn line) next r, leb-false mostNames count s)
+
+-- ---- a line that was read into a buffer of 255 bytes
+
+module _ (r : NameRead) (line buffer after : List ℕ) (size : length buffer ≡ 255) (e : nameOut r ≡ readOf nameFrame line (length buffer)) (a : after ≡ bufferOf nameFrame line buffer) where
+  read-as : (t : Bool) → isFrame nameFrame line ≡ t → nameOut r ≡ cond t (acceptedAs nameFrame line) (refusedWith nameFrame 11)
+  read-as t f = e ∙ read-roomy nameFrame line (length buffer) (omega arith) ∙ ap (λ (x : Bool). cond x (acceptedAs nameFrame line) (refusedWith nameFrame 11)) f
+
+  pub read-frame : r .number ≡ 0 → isFrame nameFrame line ≡ true
+  read-frame z = by-test (isFrame nameFrame line) refl
+    where
+      by-test : (t : Bool) → isFrame nameFrame line ≡ t → t ≡ true
+      by-test true f = refl
+      by-test false f = let n : r .number ≡ 11 = ap (λ (x : Reading). x .number) (read-as false f) in absurd (omega arith)
+
+  pub read-bad : (count next : ℕ) → (r .number ≡ 0 → ⊥) → r .number ≡ judgeLine count next line
+  read-bad count next n = by-test (isFrame nameFrame line) refl
+    where
+      by-test : (t : Bool) → isFrame nameFrame line ≡ t → r .number ≡ judgeLine count next line
+      by-test true f = absurd (n (ap (λ (x : Reading). x .number) (read-as true f)))
+      by-test false f = ap (λ (x : Reading). x .number) (read-as false f) ∙ sym (judged-malformed count next line f)
+
+  pub read-id : r .number ≡ 0 → r .id ≡ idIn line
+  read-id z = ap (λ (x : Reading). getD (x .fields) 0 0) (read-as true (read-frame z))
+
+  pub read-len : r .number ≡ 0 → r .len ≡ length (nameOf line)
+  read-len z = ap (λ (x : Reading). x .len) (read-as true (read-frame z))
+
+  pub read-short : r .number ≡ 0 → r .len ≤ 255
+  read-short z = let n = read-len z in let s = read-fits nameFrame line (read-frame z) .short in omega arith
+
+  left : r .number ≡ 0 → after ≡ nameOf line ++ drop (length (nameOf line)) buffer
+  unfolding bufferOf
+  left z =
+      a ∙ (let n : readOf nameFrame line (length buffer) .number ≡ 0 = sym (ap (λ (x : Reading). x .number) e) ∙ z in rw (eq-eqb (readOf nameFrame line (length buffer) .number) 0 n))
+
+  pub read-within : r .number ≡ 0 → r .len ≤ length after
+  read-within z =
+      let n = ap length (left z) in
+      let m = length-append (nameOf line) (drop (length (nameOf line)) buffer) in
+      let k = read-len z in
+      omega arith
+
+  pub read-name : r .number ≡ 0 → take (r .len) after ≡ nameOf line
+  read-name z =
+      ap (λ (n : ℕ). take n after) (read-len z)
+      ∙ ap (take (length (nameOf line))) (left z)
+      ∙ take-append-seam (nameOf line) (drop (length (nameOf line)) buffer)
+
+-- ---- what judging answers
+
+pub heard-bad : (count next : ℕ) (line buffer : List ℕ) (r i k : ℕ) → r ≡ judgeLine count next line → (r ≡ 0 → ⊥) → Heard count next line buffer r i k
+heard-bad count next line buffer r i k e n =
+    record { number = e; id = λ z. absurd (n z); name = λ z. absurd (n z); short = λ z. absurd (n z) }

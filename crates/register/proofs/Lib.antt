@@ -1,0 +1,8 @@
+pub mod Lines
+pub mod Rows
+pub mod Over
+pub mod Judging
+pub mod Taking
+pub mod Ending
+pub mod Laws
+mod Cases

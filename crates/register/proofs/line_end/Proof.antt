@@ -1,0 +1,68 @@
+-- `line_end` meets its contract: what is left of the line from `i` on answers for the whole.
+use mathlib.Core.Path.{_≡_, refl, sym, ap, ap₂, _∙_}
+use Prim.Native.Nat.{ℕ, _+_, _*_, _%_, _≤_, _<_, _-_}
+use native.Mathlib.Omega.{arith}
+use lib.ListN.{length, drop}
+use Rattle.register.specs.Lines.{lineLength}
+use Rattle.register.proofs.Lines.{length-line-feed, length-line-more, length-line-end}
+use Rattle.register.proofs.line_end.Statement.{statement}
+use Rattle.register.proofs.line_end.Tie as tie
+
+abbrev Inv-loop : tie.InvT-loop
+Inv-loop register from i₀ i = (i ≤ length register) × (i + lineLength (drop i register) ≡ from + lineLength (drop from register))
+
+abbrev μ-loop : tie.MeasureT-loop
+μ-loop register from i₀ i = length register - i
+
+loop-holds : tie.Need-loop-holds Inv-loop μ-loop
+loop-holds c = (c .pre, refl)
+
+shared-slice-read-if1 : tie.Need-shared-slice-read-if1 Inv-loop μ-loop
+shared-slice-read-if1 c = omega arith
+
+add-result : tie.Need-add-result Inv-loop μ-loop
+add-result c = omega arith
+
+returns : tie.Need-returns Inv-loop μ-loop
+returns c =
+    let l = c .before .before .before in
+    let t = c .before .before .loop-test .taken in
+    let q = l .loop .inv .1 in
+    let e = length-line-feed (l .before .args .register .now) (l .loop .i) t (c .if1 .taken) in
+    (omega arith, omega arith)
+
+add-i : tie.Need-add-i Inv-loop μ-loop
+add-i c = omega arith
+
+loop-less : tie.Need-loop-less Inv-loop μ-loop
+loop-less c = omega arith
+
+loop-again : tie.Need-loop-again Inv-loop μ-loop
+loop-again c =
+    let l = c .before .before .before in
+    let t = c .before .before .loop-test .taken in
+    let q = l .loop .inv .1 in
+    let e = length-line-more (l .before .args .register .now) (l .loop .i) t (c .if1 .left) in
+    (omega arith, omega arith)
+
+returns-2 : tie.Need-returns-2 Inv-loop μ-loop
+returns-2 c =
+    let l = c .before in
+    let q = l .loop .inv .1 in
+    let e = length-line-end (l .before .args .register .now) (l .loop .i) (c .loop-test .left) in
+    (omega arith, l .loop .inv .0)
+
+pub line-end-spec : {M : Type 1} → statement M
+line-end-spec =
+    tie.close
+    (tie.spec
+    Inv-loop
+    μ-loop
+    loop-holds
+    shared-slice-read-if1
+    add-result
+    returns
+    add-i
+    loop-less
+    loop-again
+    returns-2)

@@ -1,0 +1,97 @@
+-- Building an index from a register: the judging of a line, the names of all lines, and what a build answers and leaves in the words.
+-- The order in which a line is judged is `judgeLine` alone: a test more is a line more there.
+-- Assumes nothing.
+use mathlib.Core.Bool.{Bool, cond, not}
+use mathlib.Core.List.{List, [], _∷_, _++_}
+use Prim.Native.Nat.{ℕ, _+_, _-_}
+use lib.ListN.{length, getD, replicate}
+use lib.Dec.{eqb, leb, ltb}
+use Rattle.names.specs.Names.{judgeOf}
+use Rattle.names.specs.Features.{featuresOf}
+use Rattle.frames.specs.Layouts.{isFrame, fieldsIn, nameIn}
+use Rattle.frames.specs.Frames.{nameFrame}
+use Rattle.index.specs.Good.{mostNames}
+use Rattle.index.specs.Built.{Entry, wordsOf}
+use Rattle.register.specs.Lines.{linesOf}
+use Rattle.register.specs.declared.Built.{Built}
+
+-- ---- one line
+
+-- the id that a line says
+abbrev pub idIn : List ℕ → ℕ
+idIn line = getD (fieldsIn nameFrame line) 0 0
+
+-- the name that a line says
+abbrev pub nameOf : List ℕ → List ℕ
+nameOf line = nameIn nameFrame line
+
+-- the least id that may follow the names, which is one above the last; n where there is no name
+unfoldable pub nextFrom : ℕ → List Entry → ℕ
+nextFrom n [] = n
+nextFrom n (e ∷ es) = nextFrom (e .id + 1) es
+
+-- any id may come first
+abbrev pub nextId : List Entry → ℕ
+nextId es = nextFrom 0 es
+
+-- the number of a line behind `count` names, whose id has to be at least `next`; the first test that it fails decides, and 0 is a good line
+unfoldable pub judgeLine : ℕ → ℕ → List ℕ → ℕ
+judgeLine count next line =
+    cond (not (isFrame nameFrame line)) 11
+    (cond (not (eqb (judgeOf (nameOf line)) 0)) (judgeOf (nameOf line))
+    (cond (ltb (idIn line) next) 9
+    (cond (leb mostNames count) 10
+    0)))
+
+-- the name of a good line with its features
+abbrev pub entryOf : List ℕ → Entry
+entryOf line = record { id = idIn line; features = featuresOf (nameOf line) }
+
+-- ---- all lines
+
+-- what the lines come to: the number and the place of the first bad one, from 1, or 0 and 0 and all names
+pub record Taken : Type 0 where
+  pub number : ℕ
+  pub line : ℕ
+  pub entries : List Entry
+
+-- the lines behind those that gave the names es, a name a line
+unfoldable pub takeLines : List Entry → List (List ℕ) → Taken
+takeLines es [] = record { number = 0; line = 0; entries = es }
+takeLines es (l ∷ ls) =
+    let n = judgeLine (length es) (nextId es) l in
+    let r = takeLines (es ++ (entryOf l ∷ [])) ls in
+    cond (eqb n 0) r (record { number = n; line = length es + 1; entries = [] })
+
+unfoldable pub takenOf : List ℕ → Taken
+takenOf register = takeLines [] (linesOf register)
+
+-- the names of a register; none where a line is bad
+abbrev pub entriesOf : List ℕ → List Entry
+entriesOf register = takenOf register .entries
+
+-- ---- the whole
+
+-- every bit set: what stands in a word that holds nothing of an index
+abbrev pub blank : ℕ
+blank = 4294967295
+
+-- whether the index of the names fits the room
+abbrev pub roomFor : List Entry → ℕ → Bool
+roomFor es room = leb (length (wordsOf es)) room
+
+-- the answer of a build into so many words: the first bad line, then 8 and line 0 where the index does not fit, then 0 and 0
+unfoldable pub builtOf : List ℕ → ℕ → Built
+builtOf register room =
+    cond (eqb (takenOf register .number) 0)
+    (cond (roomFor (entriesOf register) room) (record { number = 0; line = 0 }) (record { number = 8; line = 0 }))
+    (record { number = takenOf register .number; line = takenOf register .line })
+
+-- the words of a list, then blanks to the length
+abbrev pub padTo : ℕ → List ℕ → List ℕ
+padTo n l = l ++ replicate (n - length l) blank
+
+-- the words after a build: the index and then blanks, or blanks alone where the build is refused
+unfoldable pub wordsAfter : List ℕ → List ℕ → List ℕ
+wordsAfter register words =
+    cond (eqb (builtOf register (length words) .number) 0) (padTo (length words) (wordsOf (entriesOf register))) (replicate (length words) blank)

@@ -1,0 +1,24 @@
+-- The lines of a register: its bytes cut behind each line feed. A last stretch without a line feed is a line too; no line follows a final line feed.
+-- Assumes nothing.
+use mathlib.Core.Bool.{cond}
+use mathlib.Core.List.{List, [], _∷_}
+use Prim.Native.Nat.{ℕ, _+_}
+use lib.Dec.{eqb}
+
+abbrev pub lineFeed : ℕ
+lineFeed = 10
+
+-- a byte in front of the first line; a line of its own where there is none
+unfoldable pub joinLine : ℕ → List (List ℕ) → List (List ℕ)
+joinLine b [] = (b ∷ []) ∷ []
+joinLine b (l ∷ ls) = (b ∷ l) ∷ ls
+
+-- a line feed ends its line; none of no bytes
+unfoldable pub linesOf : List ℕ → List (List ℕ)
+linesOf [] = []
+linesOf (b ∷ s) = let ls = linesOf s in cond (eqb b lineFeed) ((b ∷ []) ∷ ls) (joinLine b ls)
+
+-- how many bytes the first line has, its line feed included; 0 of no bytes
+unfoldable pub lineLength : List ℕ → ℕ
+lineLength [] = 0
+lineLength (b ∷ s) = let n = lineLength s in 1 + cond (eqb b lineFeed) 0 n
