@@ -6,3 +6,4 @@ pub mod Ascending
 pub mod Halving
 pub mod Tests
 pub mod Found
+pub mod Hits
