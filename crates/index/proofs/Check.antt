@@ -4,7 +4,7 @@
 use mathlib.Core.Path.{_≡_, refl, sym, ap, _∙_}
 use mathlib.Core.Bool.{Bool, true, false, _&&_}
 use mathlib.Core.List.{List}
-use Prim.Native.Nat.{ℕ, _+_, _-_, _*_, _≤_, _<_}
+use Prim.Native.Nat.{ℕ, _+_, _-_, _≤_, _<_}
 use native.Mathlib.Numerals.{add-one}
 use native.Mathlib.Omega.{arith}
 use lib.ListN.{length, getD}
@@ -15,7 +15,7 @@ use Rattle.laws.proofs.Below.{and-both, and-left, and-right, and-false-left, al
 use Rattle.laws.proofs.Found.{all-more, pairs-more}
 use Rattle.laws.proofs.Tests.{test-fails}
 use Rattle.names.specs.Features.{mostFeatures}
-use Rattle.index.specs.Words.{nameCount, rowCount, postingCount, nameId, nameSize, rowPlace, rowLength}
+use Rattle.index.specs.Words.{nameCount, rowCount, postingCount, nameId, nameSize, rowPlace, rowLength, postingsStart}
 use Rattle.index.specs.Good.{mostNames, mostPostings, largestId, leastSize, headGood, nameGood, namesGood, rowBefore, placeDue, rowGood, rowsGood}
 use Rattle.index.specs.Lists.{rowKey}
 use Rattle.index.proofs.Facts.{head-facts, names-facts, rows-facts}
@@ -34,14 +34,14 @@ module _ (w : List ℕ) where
   head-long l = test-fails (headGood w) (λ e. let h = head-facts w e .postings in omega arith)
 
   -- the last of the head's tests, by the numbers that the code reads
-  pub head-last : (n d p : ℕ) → 3 ≤ length w → n ≡ nameCount w → d ≡ rowCount w → p ≡ postingCount w → n ≤ mostNames → p ≤ mostPostings
-      → leb (3 + n + 4 * d + p) (length w) ≡ headGood w
+  pub head-last : (s p : ℕ) → 3 ≤ length w → nameCount w ≤ mostNames → p ≤ mostPostings → s ≡ postingsStart w → p ≡ postingCount w
+      → leb (s + p) (length w) ≡ headGood w
   unfolding headGood
-  head-last n d p l en ed ep hn hp =
+  head-last s p l hn hp es ep =
       let a : leb 3 (length w) ≡ true = le-leb 3 (length w) l in
-      let b : leb (nameCount w) mostNames ≡ true = le-leb (nameCount w) mostNames (omega arith) in
+      let b : leb (nameCount w) mostNames ≡ true = le-leb (nameCount w) mostNames hn in
       let c : leb (postingCount w) mostPostings ≡ true = le-leb (postingCount w) mostPostings (omega arith) in
-      rw (a, b, c, en, ed, ep)
+      rw (a, b, c, es, ep)
 
   -- ---- a name
 

@@ -14,7 +14,7 @@ use Rattle.laws.specs.Lists.{member, Distinct, Ascending, countOf}
 use Rattle.laws.specs.Below.{sumBelow, countBelow}
 use Rattle.laws.specs.First.{firstFrom}
 use Rattle.laws.proofs.Lists.{member-append, distinct-nil, distinct-snoc, count-ext, eqb-same}
-use Rattle.laws.proofs.Below.{and-both, and-left, and-right, any-at}
+use Rattle.laws.proofs.Below.{and-both, and-left, and-right, any-at, sum-below-le}
 use Rattle.laws.proofs.Found.{first-found, first-is}
 use Rattle.laws.proofs.Order.{le-or-lt}
 use Rattle.laws.proofs.Tests.{same-test, test-fails}
@@ -26,6 +26,7 @@ use Rattle.index.specs.Good.{mostNames, mostPostings, isName, listsWith,
 use Rattle.index.specs.Lists.{rowIs, rowFor, spanAt, spanIn, listIn, featuresAmong, featuresIn, namePlace}
 use Rattle.index.specs.Part.{none, cut}
 use Rattle.laws.proofs.Halving.{count-below-place}
+use Rattle.laws.proofs.Hits.{ascending-distinct, count-hits}
 use Rattle.index.specs.Check.{Checked}
 use Rattle.index.proofs.Total.{total-good}
 use Rattle.index.proofs.Facts.{before-apart, Whole, good-facts, length-list, list-getD}
@@ -165,6 +166,29 @@ good-named w g y f id m =
     let h = list-holder w y f id m in
     let n = row-named w g (rowFor w y f) id (h .0) (h .1) in
     (n .0, n .1, n .2, n .3 ∙ row-found w y f (h .0) .0)
+
+-- a list is as long as there are names in it
+pub good-list-length : (w : List ℕ) → Good w → (y f : ℕ) → countBelow (nameCount w) (λ (i : ℕ). member (nameId w i) (listIn w y f)) ≡ length (listIn w y f)
+good-list-length w g y f =
+    count-hits (nameCount w) (nameId w) (good-ids-apart w g) (listIn w y f) (ascending-distinct (listIn w y f) (good-ascending w g y f))
+    (λ x m. let n = good-named w g y f x m in (n .0, n .1, n .2))
+
+-- and so at most as long as there are names of its size
+pub good-list-most : (w : List ℕ) → Good w → (y f : ℕ) → length (listIn w y f) ≤ countBelow (nameCount w) (λ (i : ℕ). eqb (nameSize w i) y)
+good-list-most w g y f =
+    let e = good-list-length w g y f in
+    let h = sum-below-le (nameCount w) (λ (i : ℕ). cond (member (nameId w i) (listIn w y f)) 1 0) (λ (i : ℕ). cond (eqb (nameSize w i) y) 1 0) each in
+    omega arith
+  where
+    each : (i : ℕ) → i < nameCount w → cond (member (nameId w i) (listIn w y f)) 1 0 ≤ cond (eqb (nameSize w i) y) 1 0
+    each i l = by-test (member (nameId w i) (listIn w y f)) refl
+      where
+        by-test : (b : Bool) → member (nameId w i) (listIn w y f) ≡ b → cond b 1 0 ≤ cond (eqb (nameSize w i) y) 1 0
+        by-test true m =
+            let n = good-named w g y f (nameId w i) m in
+            let s : nameSize w i ≡ y = ap (nameSize w) (sym (good-ids-apart w g (n .0) i (n .1) l (n .2))) ∙ n .3 in
+            rw (eq-eqb (nameSize w i) y s) (omega arith)
+        by-test false m = omega arith
 
 -- ---- what a name stands for
 

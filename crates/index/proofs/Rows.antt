@@ -5,7 +5,7 @@ use mathlib.Core.Path.{_≡_, sym, ap, subst, _∙_}
 use mathlib.Core.Logic.{⊎-elim, inl, inr}
 use mathlib.Core.Bool.{Bool, true}
 use mathlib.Core.List.{List}
-use Prim.Native.Nat.{ℕ, _+_, _-_, _*_, _≤_, _<_}
+use Prim.Native.Nat.{ℕ, _+_, _-_, _≤_, _<_}
 use native.Mathlib.Nat.{eq-or-lt-of-le, zero-add, sub-zero}
 use native.Mathlib.Omega.{arith}
 use lib.ListN.{length, getD}
@@ -14,7 +14,7 @@ use borrow.Author.Tests.{lt-ltb, le-ltb, ltb-true, ltb-false, eq-eqb}
 use Rattle.laws.specs.Below.{countBelow}
 use Rattle.laws.proofs.Halving.{Falling, Stretch, falling-count}
 use Rattle.laws.proofs.Order.{le-or-lt}
-use Rattle.index.specs.Words.{nameCount, rowCount, rowSize, rowFeature, rowPlace, rowLength, rowWidth, rowStart, listStart, total}
+use Rattle.index.specs.Words.{rowCount, rowSize, rowFeature, rowPlace, rowLength, rowWidth, rowStart, listStart, total, postingsStart}
 use Rattle.index.specs.Good.{rowBefore, Good}
 use Rattle.index.specs.Built.{keyOf}
 use Rattle.index.specs.Part.{none}
@@ -40,10 +40,10 @@ module _ (w : List ℕ) (g : Good w) (r : ℕ) (row : r < rowCount w) where
       omega arith
 
 -- a row's part, by the numbers that the code reads
-pub span-row : (w : List ℕ) (r n d p l : ℕ) → r < rowCount w → n ≡ nameCount w → d ≡ rowCount w → p ≡ rowPlace w r → l ≡ rowLength w r
-    → spanAt w r ≡ record { start = 3 + n + 4 * d + p; count = l }
+pub span-row : (w : List ℕ) (r s p l : ℕ) → r < rowCount w → s ≡ postingsStart w → p ≡ rowPlace w r → l ≡ rowLength w r
+    → spanAt w r ≡ record { start = s + p; count = l }
 unfolding spanAt
-span-row w r n d p l h en ed ep el = rw (lt-ltb r (rowCount w) h, en, ed, ep, el)
+span-row w r s p l h es ep el = rw (lt-ltb r (rowCount w) h, es, ep, el)
 
 pub span-past : (w : List ℕ) (r : ℕ) → rowCount w ≤ r → spanAt w r ≡ none
 unfolding spanAt

@@ -61,13 +61,20 @@ pub fn name_size(words: &[u32], i: usize) -> u32
     words[3 + i] % 256
 }
 
+// Where row r starts; with D for r, where the postings start.
+fn row_start(words: &[u32], r: usize) -> usize
+    requires { ⌜ (namesStart ≤ length (now words)) × (4 * r < 2 ^ 63) ⌝ }
+    ensures { λ v. ⌜ (v ≡ rowStart (now (words .entry)) r) × (v ≤ 4 * r + 4294967298) ⌝ }
+{
+    3 + wide(words[0]) + 4 * r
+}
+
 // Word k of row r.
 fn row_word(words: &[u32], r: usize, k: usize) -> u32
     requires { ⌜ (k < rowWidth) × (rowStart (now words) r + rowWidth ≤ length (now words)) ⌝ }
     ensures { λ v. ⌜ v ≡ getD (now (words .entry)) (rowStart (now (words .entry)) r + k) 0 ⌝ }
 {
-    let start = 3 + wide(words[0]) + 4 * r;
-    words[start + k]
+    words[row_start(words, r) + k]
 }
 
 // The size of row r.
@@ -115,8 +122,7 @@ pub fn posting(words: &[u32], k: usize) -> u32
     requires { ⌜ (namesStart ≤ length (now words)) × (postingsStart (now words) + k < length (now words)) ⌝ }
     ensures { λ v. ⌜ v ≡ posting (now (words .entry)) k ⌝ }
 {
-    let start = 3 + wide(words[0]) + 4 * wide(words[1]);
-    words[start + k]
+    words[row_start(words, row_count(words)) + k]
 }
 
 // ---- halving searches
@@ -199,16 +205,14 @@ fn head_good(words: &[u32]) -> bool
     if n < 3 {
         return false;
     }
-    let names = name_count(words);
-    let rows = row_count(words);
-    let postings = posting_count(words);
-    if MOST_NAMES < names {
+    if MOST_NAMES < name_count(words) {
         return false;
     }
+    let postings = posting_count(words);
     if MOST_POSTINGS < postings {
         return false;
     }
-    3 + names + 4 * rows + postings <= n
+    row_start(words, row_count(words)) + postings <= n
 }
 
 fn name_good(words: &[u32], i: usize) -> bool
@@ -336,12 +340,12 @@ fn rows_tallied(words: &[u32], tally: &mut [u32]) -> bool
     ensures { λ v. ⌜ (v ≡ true → Tallied (now (words .entry)) (rowCount (now (words .entry))) (now (tally .exit))) ⌝ }
 {
     let rows = row_count(words);
-    let mut r: usize = 0;
-    while r < rows {
-        if !list_good(words, r, tally) {
+    let mut row: usize = 0;
+    while row < rows {
+        if !list_good(words, row, tally) {
             return false;
         }
-        r += 1;
+        row += 1;
     }
     true
 }
@@ -352,12 +356,12 @@ fn tally_good(words: &[u32], tally: &[u32]) -> bool
     ensures { λ v. ⌜ v ≡ allBelow (nameCount (now (words .entry))) (λ (i : ℕ). eqb (getD (now (tally .entry)) i 0) (nameSize (now (words .entry)) i)) ⌝ }
 {
     let names = name_count(words);
-    let mut i: usize = 0;
-    while i < names {
-        if tally[i] != name_size(words, i) {
+    let mut at: usize = 0;
+    while at < names {
+        if tally[at] != name_size(words, at) {
             return false;
         }
-        i += 1;
+        at += 1;
     }
     true
 }
@@ -418,7 +422,7 @@ pub fn list_at(words: &[u32], r: usize) -> &[u32]
     requires { ⌜ Good (now words) × (r < rowCount (now words)) ⌝ }
     ensures { λ l. ⌜ Part (words .entry) l (spanAt (now (words .entry)) r) ⌝ }
 {
-    let start = 3 + name_count(words) + 4 * row_count(words) + row_place(words, r);
+    let start = row_start(words, row_count(words)) + row_place(words, r);
     let end = start + row_length(words, r);
     &words[start..end]
 }

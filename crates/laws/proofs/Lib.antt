@@ -11,4 +11,8 @@ pub mod Images
 pub mod Ascending
 pub mod Halving
 pub mod Found
+<<<<<<< HEAD
 pub mod Sums
+=======
+pub mod Hits
+>>>>>>> index

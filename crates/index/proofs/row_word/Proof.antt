@@ -1,22 +1,13 @@
--- `row_word` meets its contract: rows start after the names.
+-- `row_word` meets its contract.
+use mathlib.Core.Path.{ap}
+use Prim.Native.Nat.{ℕ, _+_}
+use lib.ListN.{getD}
 use borrow.Author.Needs.{needs}
 use Rattle.index.proofs.row_word.Statement.{statement}
 use Rattle.index.proofs.row_word.Tie as tie
 
-shared-slice-read-wide : tie.Need-shared-slice-read-wide
-shared-slice-read-wide c = search needs
-
-wide-requires : tie.Need-wide-requires
-wide-requires c κs = search needs
-
-add-start : tie.Need-add-start
-add-start c = search needs
-
-mul-start : tie.Need-mul-start
-mul-start c = search needs
-
-add-start-2 : tie.Need-add-start-2
-add-start-2 c = search needs
+row-start-requires : tie.Need-row-start-requires
+row-start-requires c κs = search needs
 
 add-result : tie.Need-add-result
 add-result c = search needs
@@ -28,18 +19,10 @@ shared-slice-read-result : tie.Need-shared-slice-read-result
 shared-slice-read-result c = search needs
 
 returns : tie.Need-returns
-returns c = rw (c .before .wide .ensures .0)
+returns c =
+    let a = c .before .before .before .args in
+    ap (λ (n : ℕ). getD (a .words .now) (n + a .k) 0) (c .before .row-start .ensures .0)
 
 pub row-word-spec : {M : Type 1} → statement M
 row-word-spec =
-    tie.close
-    (tie.spec
-    shared-slice-read-wide
-    wide-requires
-    add-start
-    mul-start
-    add-start-2
-    add-result
-    mul-result
-    shared-slice-read-result
-    returns)
+    tie.close (tie.spec row-start-requires add-result mul-result shared-slice-read-result returns)

@@ -1,4 +1,4 @@
--- `rows_tallied` meets its contract: the first r lists are good, and the tally has them.
+-- `rows_tallied` meets its contract: the first lists are good, and the tally has them.
 use mathlib.Core.Path.{_≡_, refl, sym, ap, subst, _∙_}
 use mathlib.Core.Bool.{true, false≢true}
 use Prim.Native.Nat.{ℕ, _-_, _≤_}
@@ -16,10 +16,10 @@ use Rattle.index.proofs.rows_tallied.Statement.{statement}
 use Rattle.index.proofs.rows_tallied.Tie as tie
 
 abbrev Inv-loop : tie.InvT-loop
-Inv-loop words tally₀ rows r₀ tally r = (r ≤ rowCount words) × (length tally ≡ length tally₀) × (allBelow r (listGood words) ≡ true) × Tallied words r tally
+Inv-loop words tally₀ rows row₀ tally row = (row ≤ rowCount words) × (length tally ≡ length tally₀) × (allBelow row (listGood words) ≡ true) × Tallied words row tally
 
 abbrev μ-loop : tie.MeasureT-loop
-μ-loop words tally₀ rows r₀ tally r = rowCount words - r
+μ-loop words tally₀ rows row₀ tally row = rowCount words - row
 
 row-count-requires : tie.Need-row-count-requires Inv-loop μ-loop
 row-count-requires c κs = head-facts _ (c .before .before .pre .0 .named .head) .three
@@ -46,10 +46,10 @@ returns c =
     let n = l .before .row-count .ensures .0 in
     let t = c .before .before .before .before .before .loop-test .taken in
     let g = c .before .before .before .list-good .ensures .0 in
-    (sym (all-fails (rowCount (s .args .words .now)) (listGood (s .args .words .now)) (l .loop .r) (omega arith) (sym g ∙ not-true _ (c .if1 .taken))), λ e. absurd (false≢true e))
+    (sym (all-fails (rowCount (s .args .words .now)) (listGood (s .args .words .now)) (l .loop .row) (omega arith) (sym g ∙ not-true _ (c .if1 .taken))), λ e. absurd (false≢true e))
 
-add-r : tie.Need-add-r Inv-loop μ-loop
-add-r c = omega arith
+add-row : tie.Need-add-row Inv-loop μ-loop
+add-row c = omega arith
 
 loop-less : tie.Need-loop-less Inv-loop μ-loop
 loop-less c = omega arith
@@ -64,7 +64,7 @@ loop-again c =
     let yes-good = not-false _ (c .if1 .left) in (
       omega arith,
       g .kept .1 .1 .0 ∙ l .loop .inv .1,
-      all-more (listGood (s .args .words .now)) (l .loop .r) (l .loop .inv .2) (sym (g .ensures .0) ∙ yes-good),
+      all-more (listGood (s .args .words .now)) (l .loop .row) (l .loop .inv .2) (sym (g .ensures .0) ∙ yes-good),
       g .ensures .1 yes-good,
     )
 
@@ -78,7 +78,7 @@ returns-2 c =
     let n = l .before .row-count .ensures .0 in
     let t = c .loop-test .left in
     let w = l .loop .inv .0 in
-    let e : l .loop .r ≡ rowCount (s .args .words .now) = omega arith in
+    let e : l .loop .row ≡ rowCount (s .args .words .now) = omega arith in
     (sym (ap (λ (m : ℕ). allBelow m (listGood (s .args .words .now))) (sym e) ∙ l .loop .inv .2), λ q. subst (λ (m : ℕ). Tallied (s .args .words .now) m (l .loop .tally)) e (l .loop .inv .3))
 
 pub rows-tallied-spec : {M : Type 1} → statement M
@@ -92,7 +92,7 @@ rows-tallied-spec =
     list-good-requires
     same-length
     returns
-    add-r
+    add-row
     loop-less
     loop-again
     same-length-2

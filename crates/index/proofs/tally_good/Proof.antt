@@ -1,4 +1,4 @@
--- `tally_good` meets its contract: the first i names have their size in the tally.
+-- `tally_good` meets its contract: the first names have their size in the tally.
 use mathlib.Core.Path.{_≡_, sym, ap, _∙_}
 use mathlib.Core.Bool.{Bool, true}
 use mathlib.Core.List.{List}
@@ -20,10 +20,10 @@ abbrev sized : List ℕ → List ℕ → ℕ → Bool
 sized w tally i = eqb (getD tally i 0) (nameSize w i)
 
 abbrev Inv-loop : tie.InvT-loop
-Inv-loop words tally names i₀ i = (i ≤ nameCount words) × (allBelow i (sized words tally) ≡ true)
+Inv-loop words tally names at₀ at = (at ≤ nameCount words) × (allBelow at (sized words tally) ≡ true)
 
 abbrev μ-loop : tie.MeasureT-loop
-μ-loop words tally names i₀ i = nameCount words - i
+μ-loop words tally names at₀ at = nameCount words - at
 
 name-count-requires : tie.Need-name-count-requires Inv-loop μ-loop
 name-count-requires c κs = head-facts _ (c .before .before .pre .0) .three
@@ -52,10 +52,10 @@ returns c =
     let s = l .before .before .before .before in
     let n = l .before .name-count .ensures .0 in
     let t = c .before .before .before .loop-test .taken in
-    sym (all-fails (nameCount (s .args .words .now)) (sized (s .args .words .now) (s .args .tally .now)) (l .loop .i) (omega arith) (ne-eqb _ _ (λ e. c .if1 .taken (e ∙ sym (c .before .name-size .ensures)))))
+    sym (all-fails (nameCount (s .args .words .now)) (sized (s .args .words .now) (s .args .tally .now)) (l .loop .at) (omega arith) (ne-eqb _ _ (λ e. c .if1 .taken (e ∙ sym (c .before .name-size .ensures)))))
 
-add-i : tie.Need-add-i Inv-loop μ-loop
-add-i c = omega arith
+add-at : tie.Need-add-at Inv-loop μ-loop
+add-at c = omega arith
 
 loop-less : tie.Need-loop-less Inv-loop μ-loop
 loop-less c = omega arith
@@ -66,7 +66,7 @@ loop-again c =
     let s = l .before .before .before .before in
     let n = l .before .name-count .ensures .0 in
     let t = c .before .before .before .loop-test .taken in
-    (omega arith, all-more (sized (s .args .words .now) (s .args .tally .now)) (l .loop .i) (l .loop .inv .1) (eq-eqb _ _ (c .if1 .left ∙ c .before .name-size .ensures)))
+    (omega arith, all-more (sized (s .args .words .now) (s .args .tally .now)) (l .loop .at) (l .loop .inv .1) (eq-eqb _ _ (c .if1 .left ∙ c .before .name-size .ensures)))
 
 returns-2 : tie.Need-returns-2 Inv-loop μ-loop
 returns-2 c =
@@ -75,7 +75,7 @@ returns-2 c =
     let n = l .before .name-count .ensures .0 in
     let t = c .loop-test .left in
     let w = l .loop .inv .0 in
-    let e : l .loop .i ≡ nameCount (s .args .words .now) = omega arith in
+    let e : l .loop .at ≡ nameCount (s .args .words .now) = omega arith in
     sym (ap (λ (m : ℕ). allBelow m (sized (s .args .words .now) (s .args .tally .now))) (sym e) ∙ l .loop .inv .1)
 
 pub tally-good-spec : {M : Type 1} → statement M
@@ -90,7 +90,7 @@ tally-good-spec =
     shared-slice-read-if1
     name-size-requires
     returns
-    add-i
+    add-at
     loop-less
     loop-again
     returns-2)
