@@ -11,8 +11,5 @@ pub mod Images
 pub mod Ascending
 pub mod Halving
 pub mod Found
-<<<<<<< HEAD
 pub mod Sums
-=======
 pub mod Hits
->>>>>>> index
