@@ -1,7 +1,7 @@
 -- `place_for_good` meets its contract: as `list_for_good`, with the place in numbers.
-use mathlib.Core.Path.{_≡_, sym, ap, _∙_}
+use mathlib.Core.Path.{_≡_, sym, ap, ap₂, _∙_}
 use mathlib.Core.List.{List}
-use Prim.Native.Nat.{ℕ, _<_}
+use Prim.Native.Nat.{ℕ, _+_, _*_, _<_}
 use native.Mathlib.Omega.{arith}
 use borrow.Author.Needs.{needs}
 use lib.ListN.{getD}
@@ -77,7 +77,7 @@ returns-2 c =
     let r = c .before .before .before .before .before .before .rows-below .result in
     let f : rowKey (s .args .words .now) r ≡ keyOf (s .args .size) (s .args .feature) = sym (c .before .before .before .before .row-key .ensures) ∙ c .before .before .before .if3 .taken in
     let g = span-met (s .args .words .now) (s .pre) (fits k) (s .args .size) (s .args .feature) r (omega arith) (omega arith) f
-    ∙ span-row (s .args .words .now) r (c .before .before .name-count .result) (d .result) (c .before .row-place .result) (c .row-length .result) (omega arith) (c .before .before .name-count .ensures .0) e (c .before .row-place .ensures .0) (c .row-length .ensures .0) in
+    ∙ span-row (s .args .words .now) r (3 + c .before .before .name-count .result + 4 * d .result) (c .before .row-place .result) (c .row-length .result) (omega arith) (ap₂ (λ (n k : ℕ). 3 + n + 4 * k) (c .before .before .name-count .ensures .0) e) (c .before .row-place .ensures .0) (c .row-length .ensures .0) in
     (sym (ap (λ (p : Span). p .start) g), sym (ap (λ (p : Span). p .count) g))
 
 returns-3 : tie.Need-returns-3
