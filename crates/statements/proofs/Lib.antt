@@ -1,1 +1,4 @@
 pub mod Figures
+pub mod Listed
+pub mod Demands
+pub mod Fractions
