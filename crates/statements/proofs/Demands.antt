@@ -34,10 +34,11 @@ use Rattle.search.specs.declared.Answer.{Answer}
 use Rattle.search.specs.declared.Answer.the-variants.{Found, Refused}
 use Rattle.search.proofs.Laws.{length-lists, held-features, listed-similar, Query}
 use Rattle.search.proofs.Whole.{query-features}
-use Rattle.search.proofs.Answered.{good-past, good-full, good-found, search-refused, search-runs, question-good, refusal-question, refusal-index}
+use Rattle.search.proofs.Answered.{good-past, good-full, good-found, search-runs}
+use Rattle.search.proofs.Found.{refused-empty, refused-gives, given-found, Asked, asked, Answered, answered}
+use Rattle.search.proofs.Listed.{over-taken, over-beyond, over-at, answer-place, answer-ids, answer-listed}
 use Rattle.search.proofs.Work.{touches-candidates, candidates-names, touches-all, touches-most, signatures-least}
 use Rattle.statements.specs.Demands.{Question, Bytes, room, answer, number, steps, found, idsAfter, sharedAfter, sizesAfter, Case, firstCase, case, refusals, touchesWith, Demand1, sharedBy, Reaches, rowIds, Demand2, withAllowance, leastAt, listsAt, postingsAt, candidatesAt, Demand3}
-use Rattle.statements.proofs.Listed.{over-taken, over-beyond, over-at, answer-place, answer-ids, answer-listed}
 
 -- ---- demand 1
 
@@ -104,16 +105,6 @@ module _ (allowance all rows p q : ℕ) where
   touched-by false false false true true true false true = refl
   touched-by false false false true true true false false = refl
 
--- a refusal has no rows, no threshold, and gives no place
-refused-empty : (r : Answer) → (numberIn r ≡ 0 → ⊥) → (rowsIn r ≡ 0) × (thresholdP r ≡ 0) × (thresholdQ r ≡ 0)
-refused-empty (Found rows touches p q) n = absurd (n refl)
-refused-empty (Refused number touches) n = (refl, refl, refl)
-
-refused-gives : (r : Answer) (l : List ℕ) → (numberIn r ≡ 0 → ⊥) → givenBy r l ≡ []
-unfolding givenBy
-refused-gives (Found rows touches p q) l n = absurd (n refl)
-refused-gives (Refused number touches) l n = refl
-
 -- the number is the first of the table
 judged-first : (a : Question) → number a ≡ firstCase (refusals a)
 unfolding searchOf refusalOf questionOf judgeOf goodThreshold searchGoodOf judgedBy questionBy refusalBy answerBy wholeBy tableBy
@@ -134,84 +125,33 @@ demand-1 a =
       touched = touched-with a;
       nothing = refused-empty (answer a);
       kept = λ n.
-      let g = refused-gives (answer a) (found a) n in (
-        ap (λ (l : List ℕ). over (idColumn (a .words) l) (a .ids)) g,
-        ap (λ (l : List ℕ). over (sharedColumn (a .words) (featuresOf (a .query)) l) (a .shared)) g,
-        ap (λ (l : List ℕ). over (sizeColumn (a .words) l) (a .sizes)) g,
-      );
+          let g = refused-gives (answer a) (found a) n in (
+            ap (λ (l : List ℕ). over (idColumn (a .words) l) (a .ids)) g,
+            ap (λ (l : List ℕ). over (sharedColumn (a .words) (featuresOf (a .query)) l) (a .shared)) g,
+            ap (λ (l : List ℕ). over (sizeColumn (a .words) l) (a .sizes)) g,
+          );
     }
 
 -- ---- demand 2
 
--- what a question that is not refused before 7 is
-pub record Asked (a : Question) : Type 0 where
-  pub judged : judgeOf (a .query) ≡ 0
-  pub known : goodMeasure (a .measure) ≡ true
-  pub exact : goodThreshold (a .p) (a .q) ≡ true
-  pub good : Good (a .words)
+-- a question by its parts
+abbrev AskedBy : Question → Type 0
+AskedBy a = Asked (a .query) (a .measure) (a .p) (a .q) (a .words)
 
-pub asked : (a : Question) → refusalOf (a .query) (a .measure) (a .p) (a .q) (a .words) ≡ 0 → Asked a
-asked a z =
-    ⊎-elim
-    (λ (e : questionOf (a .query) (a .measure) (a .p) (a .q) ≡ 0).
-    let h = question-good (a .query) (a .measure) (a .p) (a .q) e in
-    record { judged = h .0; known = h .1; exact = h .2; good = by-index e (goodOf (a .words)) refl })
-    (λ (n : questionOf (a .query) (a .measure) (a .p) (a .q) ≡ 0 → ⊥).
-    absurd (n (sym (refusal-question (a .query) (a .measure) (a .p) (a .q) (a .words) n) ∙ z)))
-    (eq-or-ne (questionOf (a .query) (a .measure) (a .p) (a .q)) 0)
-  where
-    by-index : questionOf (a .query) (a .measure) (a .p) (a .q) ≡ 0 → (b : Bool) → goodOf (a .words) ≡ b → goodOf (a .words) ≡ true
-    by-index e true g = g
-    by-index e false g =
-        let s = refusal-index (a .query) (a .measure) (a .p) (a .q) (a .words) e g in
-        absurd (omega arith)
+abbrev AnsweredBy : Question → Type 0
+AnsweredBy a = Answered (a .query) (a .measure) (a .p) (a .q) (a .allowance) (a .words) (room a)
 
--- what an answered question is
-pub record Answered (a : Question) : Type 0 where
-  pub asked : Asked a
-  pub form : answer a ≡ Found (length (found a)) (steps a) (lowestTerms (a .p) (a .q) .p) (lowestTerms (a .p) (a .q) .q)
-  pub enough : steps a ≤ a .allowance
-  pub fits : length (found a) ≤ room a
-
-answered-runs : (a : Question) → refusalOf (a .query) (a .measure) (a .p) (a .q) (a .words) ≡ 0 → number a ≡ 0 → Answered a
-answered-runs a z n = by-tests (ltb (a .allowance) (steps a)) refl (ltb (room a) (length (found a))) refl
-  where
-    runs : answer a ≡ searchGoodOf (a .query) (a .measure) (a .p) (a .q) (a .allowance) (a .words) (room a)
-    runs = search-runs (a .query) (a .measure) (a .p) (a .q) (a .allowance) (a .words) (room a) z
-
-    by-tests : (s : Bool) → ltb (a .allowance) (steps a) ≡ s → (f : Bool) → ltb (room a) (length (found a)) ≡ f → Answered a
-    by-tests true s f r =
-        let e = ap numberIn (runs ∙ good-past (a .query) (a .measure) (a .p) (a .q) (a .allowance) (a .words) (room a) s) in absurd (omega arith)
-    by-tests false s true r =
-        let e = ap numberIn (runs ∙ good-full (a .query) (a .measure) (a .p) (a .q) (a .allowance) (a .words) (room a) s r) in absurd (omega arith)
-    by-tests false s false r =
-        record {
-          asked = asked a z;
-          form = runs ∙ good-found (a .query) (a .measure) (a .p) (a .q) (a .allowance) (a .words) (room a) s r;
-          enough = (let h = ltb-false (a .allowance) (steps a) s in omega arith);
-          fits = (let h = ltb-false (room a) (length (found a)) r in omega arith);
-        }
-
-pub answered : (a : Question) → number a ≡ 0 → Answered a
-answered a n =
-    ⊎-elim
-    (λ (z : refusalOf (a .query) (a .measure) (a .p) (a .q) (a .words) ≡ 0). answered-runs a z n)
-    (λ (r : refusalOf (a .query) (a .measure) (a .p) (a .q) (a .words) ≡ 0 → ⊥).
-    absurd (r (sym (ap numberIn (search-refused (a .query) (a .measure) (a .p) (a .q) (a .allowance) (a .words) (room a) (refusalOf (a .query) (a .measure) (a .p) (a .q) (a .words)) refl r)) ∙ n)))
-    (eq-or-ne (refusalOf (a .query) (a .measure) (a .p) (a .q) (a .words)) 0)
+answered-by : (a : Question) → number a ≡ 0 → AnsweredBy a
+answered-by a n = answered (a .query) (a .measure) (a .p) (a .q) (a .allowance) (a .words) (room a) n
 
 -- a name shares the features that it stands for
-pub shared-by : (a : Question) → Asked a → Bytes (a .query) → (i : ℕ) → i < nameCount (a .words)
+pub shared-by : (a : Question) → AskedBy a → Bytes (a .query) → (i : ℕ) → i < nameCount (a .words)
     → sharedWith (a .words) (featuresOf (a .query)) i ≡ sharedBy a i
 unfolding sharedWith sharedOf
 shared-by a k b i h =
     held-features (a .words) (nameSize (a .words) i) (featuresOf (a .query)) (nameId (a .words) i) (query-features (a .query) (k .judged) b .small)
     ∙ count-ext (λ (f : ℕ). member (nameId (a .words) i) (listIn (a .words) (nameSize (a .words) i) f)) (λ (f : ℕ). member f (featuresIn (a .words) (nameId (a .words) i)))
     (λ f. sym (features-member (a .words) (k .good) i h f)) (featuresOf (a .query))
-
-given-found : (r : Answer) (n t p q : ℕ) (l : List ℕ) → r ≡ Found n t p q → givenBy r l ≡ l
-unfolding givenBy
-given-found r n t p q l e = ap (λ (s : Answer). givenBy s l) e
 
 pub demand-2 : (a : Question) → Bytes (a .query) → number a ≡ 0 → Demand2 a
 demand-2 a b n =
@@ -224,8 +164,8 @@ demand-2 a b n =
       lowest = (ap thresholdP (k .form), ap thresholdQ (k .form));
     }
   where
-    k : Answered a
-    k = answered a n
+    k : AnsweredBy a
+    k = answered-by a n
 
     rows : rowsIn (answer a) ≡ length (found a)
     rows = ap rowsIn (k .form)
@@ -284,6 +224,9 @@ demand-2 a b n =
 -- ---- demand 3
 
 module _ (a : Question) (b : Bytes (a .query)) (z : refusalOf (a .query) (a .measure) (a .p) (a .q) (a .words) ≡ 0) where
+  asked-by : AskedBy a
+  asked-by = asked (a .query) (a .measure) (a .p) (a .q) (a .words) z
+
   runs : (n : ℕ) → answer (withAllowance n a) ≡ searchGoodOf (a .query) (a .measure) (a .p) (a .q) n (a .words) (room a)
   runs n = search-runs (a .query) (a .measure) (a .p) (a .q) n (a .words) (room a) z
 
@@ -303,7 +246,7 @@ module _ (a : Question) (b : Bytes (a .query)) (z : refusalOf (a .query) (a .mea
 
   more : (n : ℕ) → a .allowance ≤ n → number a ≡ 0 → answer (withAllowance n a) ≡ answer a
   more n h e =
-      let k = answered a e in
+      let k = answered-by a e in
       let enough = k .enough in
       let fits = k .fits in
       runs n
@@ -311,14 +254,14 @@ module _ (a : Question) (b : Bytes (a .query)) (z : refusalOf (a .query) (a .mea
       ∙ sym (k .form)
 
   asks : Query (featuresOf (a .query))
-  asks = query-features (a .query) (asked a z .judged) b
+  asks = query-features (a .query) (asked-by .judged) b
 
   a-size : (y : ℕ) → 0 < y → isSearched (a .measure) (a .p) (a .q) (length (featuresOf (a .query))) y ≡ true
       → (touchesOfSize (a .words) (a .measure) (a .p) (a .q) (featuresOf (a .query)) y ≤ postingsAt a y + candidatesAt a y * (leastAt a y - 1))
       × (postingsAt a y + candidatesAt a y * (leastAt a y - 1) ≤ length (featuresOf (a .query)) * namesOf (a .words) y)
   unfolding touchesOfSize
   a-size y h e =
-      let k = asked a z in
+      let k = asked-by in
       let some = asks .some in
       let low = least-pos (a .measure) (a .p) (a .q) (length (featuresOf (a .query))) y (k .known) (k .exact) in
       let high = least-within (a .measure) (a .p) (a .q) (length (featuresOf (a .query))) y (omega arith) h e in
@@ -336,17 +279,17 @@ module _ (a : Question) (b : Bytes (a .query)) (z : refusalOf (a .query) (a .mea
   demand-3 =
       record {
         seven = (within, past);
-        counted = λ e. ap touchesIn (answered a e .form);
+        counted = λ e. ap touchesIn (answered-by a e .form);
         larger = λ n h e.
-        let s = more n h e in (
-          s,
-          ap (λ (r : Answer). over (idColumn (a .words) (givenBy r (found a))) (a .ids)) s,
-          ap (λ (r : Answer). over (sharedColumn (a .words) (featuresOf (a .query)) (givenBy r (found a))) (a .shared)) s,
-          ap (λ (r : Answer). over (sizeColumn (a .words) (givenBy r (found a))) (a .sizes)) s,
-        );
+            let s = more n h e in (
+              s,
+              ap (λ (r : Answer). over (idColumn (a .words) (givenBy r (found a))) (a .ids)) s,
+              ap (λ (r : Answer). over (sharedColumn (a .words) (featuresOf (a .query)) (givenBy r (found a))) (a .shared)) s,
+              ap (λ (r : Answer). over (sizeColumn (a .words) (givenBy r (found a))) (a .sizes)) s,
+            );
         a-size = a-size;
         no-size = no-size;
-        in-all = touches-all (a .words) (asked a z .good) (a .measure) (a .p) (a .q) (asked a z .known) (asked a z .exact) (featuresOf (a .query)) asks;
-        most = touches-most (a .words) (asked a z .good) (a .measure) (a .p) (a .q) (asked a z .known) (asked a z .exact) (featuresOf (a .query)) asks (size-most (a .query));
+        in-all = touches-all (a .words) (asked-by .good) (a .measure) (a .p) (a .q) (asked-by .known) (asked-by .exact) (featuresOf (a .query)) asks;
+        most = touches-most (a .words) (asked-by .good) (a .measure) (a .p) (a .q) (asked-by .known) (asked-by .exact) (featuresOf (a .query)) asks (size-most (a .query));
         smallest = λ y chosen n. signatures-least (a .words) y (featuresOf (a .query)) (leastAt a y) (asks .small) chosen n;
       }

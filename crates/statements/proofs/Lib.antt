@@ -1,4 +1,3 @@
 pub mod Figures
-pub mod Listed
 pub mod Demands
 pub mod Fractions
