@@ -7,8 +7,7 @@ ghost use Prim.Native.Nat.{ℕ, _+_, _*_, _≤_, _<_};
 ghost use lib.ListN.{length, getD, take, drop};
 ghost use Rattle.index.specs.Good.{Good};
 ghost use Rattle.search.specs.Answers.{rowsIn};
-ghost use Rattle.search.specs.declared.Answer.the-variants.{Found};
-ghost use Rattle.answers.specs.Output.{begins, registerEnd, openedOf, openWords, rowLine, rowsText, rowsLent, answerText, answerOf, fittingOf, fittedOf};
+ghost use Rattle.answers.specs.Output.{begins, registerEnd, openedOf, openWords, rowLine, rowsText, rowsLent, foundText, answerText, answerOf, fittingOf, fittedOf};
 ghost use Rattle.answers.specs.Rows.{Shown};
 use frames::Written;
 use search::Answer;
@@ -92,5 +91,49 @@ fn put_rows(ids: &[u32], shared: &[u32], sizes: &[u32], n: usize, out: &mut [u8]
     while k < n {
         put_row(ids[k], shared[k], sizes[k], out, k);
         k += 1;
+    }
+}
+
+// Writes the rows and the end of an answer, where they fit.
+fn put_found(
+    rows: u32,
+    touches: u32,
+    p: u16,
+    q: u16,
+    ids: &[u32],
+    shared: &[u32],
+    sizes: &[u32],
+    out: &mut [u8],
+) -> Written
+    requires { ⌜ Shown (now ids) (now shared) (now sizes) rows ⌝ }
+    ensures { λ r. ⌜ (r ≡ fittingOf (foundText rows touches p q (now (ids .entry)) (now (shared .entry)) (now (sizes .entry))) (length (now (out .entry)))) × (now (out .exit) ≡ fittedOf (foundText rows touches p q (now (ids .entry)) (now (shared .entry)) (now (sizes .entry))) (now (out .entry))) ⌝ }
+{
+    let n = rows as usize;
+    let end = 11 * n;
+    let total = end + 23;
+    if out.len() < total {
+        return Written { number: 8, len: 0 };
+    }
+    put_rows(ids, shared, sizes, n, &mut out[..end]);
+    frames::write_end(&mut out[end..total], rows as u16, touches, p, q);
+    Written {
+        number: 0,
+        len: total,
+    }
+}
+
+// Writes the lines of an answer, where they fit.
+fn put_answer(answer: Answer, ids: &[u32], shared: &[u32], sizes: &[u32], out: &mut [u8]) -> Written
+    requires { ⌜ Shown (now ids) (now shared) (now sizes) (rowsIn answer) ⌝ }
+    ensures { λ r. ⌜ (r ≡ fittingOf (answerText answer (now (ids .entry)) (now (shared .entry)) (now (sizes .entry))) (length (now (out .entry)))) × (now (out .exit) ≡ fittedOf (answerText answer (now (ids .entry)) (now (shared .entry)) (now (sizes .entry))) (now (out .entry))) ⌝ }
+{
+    match answer {
+        Answer::Found {
+            rows,
+            touches,
+            p,
+            q,
+        } => put_found(rows, touches, p, q, ids, shared, sizes, out),
+        Answer::Refused { number, touches } => frames::write_refusal(out, number, touches),
     }
 }
