@@ -1,0 +1,4 @@
+pub mod Lists
+pub mod Slices
+pub mod Arrays
+pub mod Answers
