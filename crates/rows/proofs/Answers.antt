@@ -8,7 +8,8 @@ use mathlib.Core.List.{List, [], _∷_, _++_, map, append-nil}
 use Prim.Native.Nat.{ℕ, zero, suc, _≤_, _<_, min}
 use native.Mathlib.Nat.{min-eq-left, min-eq-right, min-le-right}
 use native.Mathlib.Omega.{arith}
-use lib.ListN.{length, getD, drop, length-append, length-map, List·getD-append}
+use lib.ListN.{length, getD, take, drop, length-append, length-map, List·getD-append}
+use lib.Seq.{length-take-le}
 use lib.Dec.{ltb, eqb}
 use borrow.Author.Tests.{le-ltb, ltb-false, eqb-true, ne-eqb}
 use Rattle.laws.specs.Lists.{tabulate}
@@ -162,9 +163,12 @@ rows-columns w query places a b c x y z =
 
 -- ---- what `fill_columns` leaves
 
--- a column that holds as many as there can be names can be cut at the room, or at the most names where that is less
-pub cut-within : (n room long : ℕ) → n ≡ min room mostNames → long ≡ mostNames → n ≤ long
-cut-within n room long e f = let h = min-le-right room mostNames in omega arith
+-- a column that holds as many as there can be names, cut at the room, or at the most names where that is less, is as long as the cut
+pub length-cut : (n room : ℕ) (l : List ℕ) → n ≡ min room mostNames → length l ≡ mostNames → length (take n l) ≡ n
+length-cut n room l e f = let h = min-le-right room mostNames in length-take-le n l (let g : n ≤ length l = omega arith in g)
+
+pub cut-counted : (n room : ℕ) (l : List ℕ) → n ≡ min room mostNames → length l ≡ mostNames → n ≡ length (take n l)
+cut-counted n room l e f = sym (length-cut n room l e f)
 
 room-three : (a b c : List ℕ) (n : ℕ) → length a ≡ n → length b ≡ n → length c ≡ n → roomOf a b c ≡ n
 room-three a b c n e f g =

@@ -58,7 +58,7 @@ fn fill_columns(
     requires { ⌜ (length (now ids) ≡ mostNames) × (length (now shared) ≡ mostNames) × (length (now sizes) ≡ mostNames) ⌝ }
     ensures { λ r. ⌜ Filled (now (query .entry)) measure p q allowance (now (words .entry)) room r (now (ids .exit)) (now (shared .exit)) (now (sizes .exit)) ⌝ }
 {
-    let n = smaller(room, 256);
+    let n = smaller(room, index::MOST_NAMES);
     search::search(
         query,
         measure,
@@ -100,9 +100,9 @@ pub fn search_rows(
 ) -> Answer
     ensures { λ r. ⌜ (r ≡ searchOf (now (query .entry)) measure p q allowance (now (words .entry)) (length (now (rows .entry)))) × (now (rows .exit) ≡ overRows (rowsOf (now (words .entry)) (featuresOf (now (query .entry))) (givenBy r (answersOf (now (words .entry)) measure p q (featuresOf (now (query .entry)))))) (now (rows .entry))) ⌝ }
 {
-    let mut ids = [0u32; 256];
-    let mut shared = [0u32; 256];
-    let mut sizes = [0u32; 256];
+    let mut ids = [0u32; index::MOST_NAMES];
+    let mut shared = [0u32; index::MOST_NAMES];
+    let mut sizes = [0u32; index::MOST_NAMES];
     let answer = fill_columns(
         query,
         measure,

@@ -1,10 +1,7 @@
+-- `fill_columns` meets its contract: the columns are cut at the room, and a good index has no more names than they hold.
+use lib.ListN.{take, drop}
 use borrow.Author.Needs.{needs}
-use mathlib.Core.Path.{_≡_, refl, sym, ap, _∙_}
-use mathlib.Core.List.{List, _++_}
-use Prim.Native.Nat.{ℕ, _≤_, min}
-use lib.ListN.{length, take, drop}
-use lib.Seq.{length-take-le}
-use Rattle.rows.proofs.Answers.{cut-within, filled}
+use Rattle.rows.proofs.Answers.{length-cut, cut-counted, filled}
 use Rattle.rows.proofs.fill_columns.Statement.{statement}
 use Rattle.rows.proofs.fill_columns.Tie as tie
 
@@ -15,25 +12,19 @@ slice-relend-prefix-search : tie.Need-slice-relend-prefix-search
 slice-relend-prefix-search c = search needs
 
 slice-aggregate-search : tie.Need-slice-aggregate-search
-slice-aggregate-search c =
-    let b = c .before .before .before .before .before .before .before in
-    sym (length-take-le {A = ℕ} (c .before .smaller .result) (b .args .ids .now) (cut-within (c .before .smaller .result) (b .args .room) (length (b .args .ids .now)) (c .before .smaller .ensures) (b .pre .0)))
+slice-aggregate-search c = search (needs, cut-counted)
 
 slice-relend-prefix-search-2 : tie.Need-slice-relend-prefix-search-2
 slice-relend-prefix-search-2 c = search needs
 
 slice-aggregate-search-2 : tie.Need-slice-aggregate-search-2
-slice-aggregate-search-2 c =
-    let b = c .before .before .before .before .before .before .before .before in
-    sym (length-take-le {A = ℕ} (c .before .before .smaller .result) (b .args .shared .now) (cut-within (c .before .before .smaller .result) (b .args .room) (length (b .args .shared .now)) (c .before .before .smaller .ensures) (b .pre .1)))
+slice-aggregate-search-2 c = search (needs, cut-counted)
 
 slice-relend-prefix-search-3 : tie.Need-slice-relend-prefix-search-3
 slice-relend-prefix-search-3 c = search needs
 
 slice-aggregate-search-3 : tie.Need-slice-aggregate-search-3
-slice-aggregate-search-3 c =
-    let b = c .before .before .before .before .before .before .before .before .before in
-    sym (length-take-le {A = ℕ} (c .before .before .before .smaller .result) (b .args .sizes .now) (cut-within (c .before .before .before .smaller .result) (b .args .room) (length (b .args .sizes .now)) (c .before .before .before .smaller .ensures) (b .pre .2)))
+slice-aggregate-search-3 c = search (needs, cut-counted)
 
 search-requires : tie.Need-search-requires
 search-requires c κs = search needs
@@ -58,9 +49,9 @@ returns c =
     let k = b .args .sizes .now in
     filled (b .args .query .now) (b .args .measure) (b .args .p) (b .args .q) (b .args .allowance) (b .args .words .now) (b .args .room) n (f .result)
     _ _ _ (take n i) (take n j) (take n k) (drop n i) (drop n j) (drop n k) e
-    (length-take-le {A = ℕ} n i (cut-within n (b .args .room) (length i) e (b .pre .0)))
-    (length-take-le {A = ℕ} n j (cut-within n (b .args .room) (length j) e (b .pre .1)))
-    (length-take-le {A = ℕ} n k (cut-within n (b .args .room) (length k) e (b .pre .2)))
+    (length-cut n (b .args .room) i e (b .pre .0))
+    (length-cut n (b .args .room) j e (b .pre .1))
+    (length-cut n (b .args .room) k e (b .pre .2))
     (f .ensures .0) (f .ensures .1 .0) (f .ensures .1 .1 .0) (f .ensures .1 .1 .1)
 
 pub fill-columns-spec : {M : Type 1} → statement M

@@ -107,10 +107,11 @@ Put 𝓤 H A mem run = tripleOf 𝓤 H A put-rows.signature (put-rows.spec 𝓤 
 abbrev Word : Ty
 Word = tyInt w64
 
-zeros-long : length (zeros 256) ≡ 256
-zeros-long = length-replicate {A = ℕ} 256 0
+zeros-long : length (zeros mostNames) ≡ mostNames
+zeros-long = length-replicate {A = ℕ} mostNames 0
 
-column-room : Room u32 256
+-- a column's room: its count fits a usize, and its bytes an isize
+column-room : Room u32 mostNames
 column-room = (lit< tt, lit< tt)
 
 -- what is bound of the parameters of `fill_columns` and of `put_rows` at their exit: the lists of the lent slices
@@ -181,8 +182,8 @@ module _ {M : Type 1} (𝓤 : URA M) (H : Heap 𝓤) (A : Atoms 𝓤) (W : Given
   answer-makes : Makes 𝓤 H A answer-type.the-row (Is answer-type.the-row)
   answer-makes = Variants.makes answer-type.the-type answer-laws.the-plain 𝓤 H A
 
-  zero-column : Yes (hasTy (Nums 256) (begun 256)) × WT (begun 256)
-  zero-column = begun-typed 𝓤 H A W 256
+  zero-column : Yes (hasTy (Nums mostNames) (begun mostNames)) × WT (begun mostNames)
+  zero-column = begun-typed 𝓤 H A W mostNames
 
   -- ---- what `fill_columns` is passed: the columns in the blocks c₁, c₂, c₃, lent for ν₁, ν₂, ν₃ under the names δ₁, δ₂, δ₃
 
@@ -194,7 +195,7 @@ module _ {M : Type 1} (𝓤 : URA M) (H : Heap 𝓤) (A : Atoms 𝓤) (W : Given
 
   abbrev fill-args : GName → GName → GName → ℕ → ℕ → ℕ → FillParams
   fill-args δ₁ δ₂ δ₃ c₁ c₂ c₃ =
-      (ref b₁ o₁ γ₁ s, (m, (p, (q, (allowance, (ref b₂ o₂ γ₂ w, (length rs, (ref c₁ 0 δ₁ (zeros 256), (ref c₂ 0 δ₂ (zeros 256), (ref c₃ 0 δ₃ (zeros 256), tt))))))))))
+      (ref b₁ o₁ γ₁ s, (m, (p, (q, (allowance, (ref b₂ o₂ γ₂ w, (length rs, (ref c₁ 0 δ₁ (zeros mostNames), (ref c₂ 0 δ₂ (zeros mostNames), (ref c₃ 0 δ₃ (zeros mostNames), tt))))))))))
 
   abbrev to-fill : ℕ → ℕ → ℕ → GName → GName → GName → ℕ → ℕ → ℕ → Fill 𝓤 H A mem run .Ghost
   to-fill ν₁ ν₂ ν₃ δ₁ δ₂ δ₃ c₁ c₂ c₃ = (
@@ -203,20 +204,25 @@ module _ {M : Type 1} (𝓤 : URA M) (H : Heap 𝓤) (A : Atoms 𝓤) (W : Given
       (q₁, (q₂, (fullShare, (fullShare, (fullShare, tt))))),
       tt,
       fill-args δ₁ δ₂ δ₃ c₁ c₂ c₃,
-      (v₁ ∷ [], (vint w8 m ∷ [], (vint w16 p ∷ [], (vint w16 q ∷ [], (vint w32 allowance ∷ [], (v₆ ∷ [], (vint w64 (length rs) ∷ [], (sliceVal (c₁, 0) 256 ∷ [], (sliceVal (c₂, 0) 256 ∷ [], (sliceVal (c₃, 0) 256 ∷ [], tt)))))))))),
+      (v₁ ∷ [], (vint w8 m ∷ [], (vint w16 p ∷ [], (vint w16 q ∷ [], (vint w32 allowance ∷ [], (v₆ ∷ [], (vint w64 (length rs) ∷ [], (sliceVal (c₁, 0) mostNames ∷ [], (sliceVal (c₂, 0) mostNames ∷ [], (sliceVal (c₃, 0) mostNames ∷ [], tt)))))))))),
     ),
     tt,
   )
 
   -- a column, lent as number j
   abbrev column : ℕ → ℕ → GName → ℕ → Fml
-  column j ν δ c = MutSlice (named j) (ν ∷ []) u32 .own (ref c 0 δ (zeros 256)) (sliceVal (c, 0) 256 ∷ [])
+  column j ν δ c = MutSlice (named j) (ν ∷ []) u32 .own (ref c 0 δ (zeros mostNames)) (sliceVal (c, 0) mostNames ∷ [])
+
+  -- what stands before the call
+  abbrev BeforeFill : ℕ → ℕ → ℕ → GName → GName → GName → ℕ → ℕ → ℕ → Item 𝓤
+  BeforeFill ν₁ ν₂ ν₃ δ₁ δ₂ δ₃ c₁ c₂ c₃ =
+      ((((((((‵ (flft κ₁ q₁) ⊛ ‵ (flft κ₂ q₂)) ⊛ ‵ own-query) ⊛ ‵ own-words)
+      ⊛ ‵ (flft (ν₁ ∷ []) fullShare)) ⊛ ‵ (column 2 ν₁ δ₁ c₁)) ⊛ ‵ (flft (ν₂ ∷ []) fullShare)) ⊛ ‵ (column 3 ν₂ δ₂ c₂)) ⊛ ‵ (flft (ν₃ ∷ []) fullShare)) ⊛ ‵ (column 4 ν₃ δ₃ c₃)
 
   asks-fill : (ν₁ ν₂ ν₃ : ℕ) (δ₁ δ₂ δ₃ : GName) (c₁ c₂ c₃ : ℕ)
-      → ent 𝓤 (⋆ 𝓤 H A ((((((((((‵ (flft κ₁ q₁) ⊛ ‵ (flft κ₂ q₂)) ⊛ ‵ own-query) ⊛ ‵ own-words) ⊛ ‵ (flft (ν₁ ∷ []) fullShare)) ⊛ ‵ (column 2 ν₁ δ₁ c₁)) ⊛ ‵ (flft (ν₂ ∷ []) fullShare)) ⊛ ‵ (column 3 ν₂ δ₂ c₂)) ⊛ ‵ (flft (ν₃ ∷ []) fullShare)) ⊛ ‵ (column 4 ν₃ δ₃ c₃)) ∷ []))
-      (Fill 𝓤 H A mem run .pre (to-fill ν₁ ν₂ ν₃ δ₁ δ₂ δ₃ c₁ c₂ c₃))
+      → ent 𝓤 (⋆ 𝓤 H A (BeforeFill ν₁ ν₂ ν₃ δ₁ δ₂ δ₃ c₁ c₂ c₃ ∷ [])) (Fill 𝓤 H A mem run .pre (to-fill ν₁ ν₂ ν₃ δ₁ δ₂ δ₃ c₁ c₂ c₃))
   asks-fill ν₁ ν₂ ν₃ δ₁ δ₂ δ₃ c₁ c₂ c₃ =
-      qed W ((((((((((‵ (flft κ₁ q₁) ⊛ ‵ (flft κ₂ q₂)) ⊛ ‵ own-query) ⊛ ‵ own-words) ⊛ ‵ (flft (ν₁ ∷ []) fullShare)) ⊛ ‵ (column 2 ν₁ δ₁ c₁)) ⊛ ‵ (flft (ν₂ ∷ []) fullShare)) ⊛ ‵ (column 3 ν₂ δ₂ c₂)) ⊛ ‵ (flft (ν₃ ∷ []) fullShare)) ⊛ ‵ (column 4 ν₃ δ₃ c₃)) ∷ []) ∵
+      qed W (BeforeFill ν₁ ν₂ ν₃ δ₁ δ₂ δ₃ c₁ c₂ c₃ ∷ []) ∵
       says ! (zeros-long, zeros-long, zeros-long) $
       split ! $ split ! $ split ! $ split ! $ split ! $ split ! $ split ! $ split ! $ split ! $
       -- [κ₁'s token; κ₂'s; query; words; ν₁'s; ids; ν₂'s; shared; ν₃'s; sizes]: first the tokens, then what is owned
@@ -259,21 +265,21 @@ module _ {M : Type 1} (𝓤 : URA M) (H : Heap 𝓤) (A : Atoms 𝓤) (W : Given
         (fullShare, (fullShare, (fullShare, (q₃, tt)))),
         tt,
         put-args η₁ η₂ η₃ c₁ c₂ c₃ i j k n,
-        (sliceVal (c₁, 0) 256 ∷ [], (sliceVal (c₂, 0) 256 ∷ [], (sliceVal (c₃, 0) 256 ∷ [], (vint w64 n ∷ [], (v₇ ∷ [], tt))))),
+        (sliceVal (c₁, 0) mostNames ∷ [], (sliceVal (c₂, 0) mostNames ∷ [], (sliceVal (c₃, 0) mostNames ∷ [], (vint w64 n ∷ [], (v₇ ∷ [], tt))))),
       ),
       tt,
     )
 
     -- what stands before the call
-    abbrev Before : Item 𝓤
-    Before =
+    abbrev BeforePut : Item 𝓤
+    BeforePut =
         ((((((‵ (flft (μ₁ ∷ []) fullShare) ⊛ ‵ (flft (μ₂ ∷ []) fullShare)) ⊛ ‵ (flft (μ₃ ∷ []) fullShare)) ⊛ ‵ (flft κ₃ q₃))
-        ⊛ ‵ (ShrSlice (named 0) (μ₁ ∷ []) u32 .own (ref c₁ 0 η₁ i) (sliceVal (c₁, 0) 256 ∷ []))) ⊛ ‵ (ShrSlice (named 1) (μ₂ ∷ []) u32 .own (ref c₂ 0 η₂ j) (sliceVal (c₂, 0) 256 ∷ [])))
-        ⊛ ‵ (ShrSlice (named 2) (μ₃ ∷ []) u32 .own (ref c₃ 0 η₃ k) (sliceVal (c₃, 0) 256 ∷ []))) ⊛ ‵ own-rows
+        ⊛ ‵ (ShrSlice (named 0) (μ₁ ∷ []) u32 .own (ref c₁ 0 η₁ i) (sliceVal (c₁, 0) mostNames ∷ []))) ⊛ ‵ (ShrSlice (named 1) (μ₂ ∷ []) u32 .own (ref c₂ 0 η₂ j) (sliceVal (c₂, 0) mostNames ∷ [])))
+        ⊛ ‵ (ShrSlice (named 2) (μ₃ ∷ []) u32 .own (ref c₃ 0 η₃ k) (sliceVal (c₃, 0) mostNames ∷ []))) ⊛ ‵ own-rows
 
-    asks-put : n < 2 ^ 64 → (n ≤ length i) × ((n ≤ length j) × ((n ≤ length k) × (n ≤ length rs))) → ent 𝓤 (⋆ 𝓤 H A (Before ∷ [])) (Put 𝓤 H A mem run .pre to-put)
+    asks-put : n < 2 ^ 64 → (n ≤ length i) × ((n ≤ length j) × ((n ≤ length k) × (n ≤ length rs))) → ent 𝓤 (⋆ 𝓤 H A (BeforePut ∷ [])) (Put 𝓤 H A mem run .pre to-put)
     asks-put fits fit =
-        qed W (Before ∷ []) ∵ says ! fit $ split ! $ split ! $ split ! $ split ! $ split ! $ split ! $ split ! $
+        qed W (BeforePut ∷ []) ∵ says ! fit $ split ! $ split ! $ split ! $ split ! $ split ! $ split ! $ split ! $
         -- [μ₁'s token; μ₂'s; μ₃'s; κ₃'s; ids; shared; sizes; rows]
         nothing ! $ move ! (4 ∷ 0 ∷ []) $ join ! $ move ! (3 ∷ 0 ∷ []) $ join ! $ move ! (2 ∷ 0 ∷ []) $ join ! $ move ! (1 ∷ 0 ∷ []) $ join ! $ frame ! $
         nothing ! $ move ! (4 ∷ 0 ∷ []) $ fjoin ! $ owned ! usize (Is usize) (uint-makes 𝓤 H A W w64) n _ (refl, fits) $ fjoin ! $
@@ -283,16 +289,16 @@ module _ {M : Type 1} (𝓤 : URA M) (H : Heap 𝓤) (A : Atoms 𝓤) (W : Given
   abbrev written : FillLast → Answer → List Row
   written ws r = rowsOver (rowAt (is ws) (ss ws) (zs ws)) (rowsIn r) rs
 
-  -- an answer's rows are at most 256 and at most the rows lent
+  -- an answer's rows are at most the names, and at most the rows lent
   module _ (ws : FillLast) (r : Answer) (filled : Filled s m p q allowance w (length rs) r (is ws) (ss ws) (zs ws)) where
     fits-row : rowsIn r < 2 ^ 64
     fits-row = let a = filled .few in omega arith
 
-    fit-put : length (is ws) ≡ length (zeros 256) → length (ss ws) ≡ length (zeros 256) → length (zs ws) ≡ length (zeros 256)
+    fit-put : length (is ws) ≡ length (zeros mostNames) → length (ss ws) ≡ length (zeros mostNames) → length (zs ws) ≡ length (zeros mostNames)
         → (rowsIn r ≤ length (is ws)) × ((rowsIn r ≤ length (ss ws)) × ((rowsIn r ≤ length (zs ws)) × (rowsIn r ≤ length rs)))
     fit-put e₁ e₂ e₃ = (column-fits (is ws) e₁, (column-fits (ss ws) e₂, (column-fits (zs ws) e₃, filled .within)))
       where
-        column-fits : (l : List ℕ) → length l ≡ length (zeros 256) → rowsIn r ≤ length l
+        column-fits : (l : List ℕ) → length l ≡ length (zeros mostNames) → rowsIn r ≤ length l
         column-fits l e = subst (λ (n : ℕ). rowsIn r ≤ n) (sym (e ∙ zeros-long)) (filled .few)
 
   -- ---- the end
@@ -326,25 +332,25 @@ module _ {M : Type 1} (𝓤 : URA M) (H : Heap 𝓤) (A : Atoms 𝓤) (W : Given
         -- local i stands at 54 − 2i, and that it dies behind it; then the tokens and what the parameters own
         pass1 ! (init ! 52 refl (tt, (tt, (record { fits = room₁ .0 }, tt)))) $ pass1 ! (init ! 50 refl (tt, record { fits = f₂ })) $ pass1 ! (init ! 48 refl (tt, record { fits = f₃ })) $ pass1 ! (init ! 46 refl (tt, record { fits = f₄ })) $ pass1 ! (init ! 44 refl (tt, record { fits = f₅ })) $ pass1 ! (init ! 42 refl (tt, (tt, (record { fits = room₆ .0 }, tt)))) $ pass1 ! (init ! 40 refl (tt, (tt, (record { fits = room₇ .0 }, tt)))) $ pass0 ! $
         -- the columns, begun as zeros
-        assigns ! (rep ! 256 (lit ! tt)) (from ! (stop !)) (init ! 38 refl zero-column) $
-        assigns ! (rep ! 256 (lit ! tt)) (from ! (stop !)) (init ! 36 refl zero-column) $
-        assigns ! (rep ! 256 (lit ! tt)) (from ! (stop !)) (init ! 34 refl zero-column) $
+        assigns ! (rep ! mostNames (lit ! tt)) (from ! (stop !)) (init ! 38 refl zero-column) $
+        assigns ! (rep ! mostNames (lit ! tt)) (from ! (stop !)) (init ! 36 refl zero-column) $
+        assigns ! (rep ! mostNames (lit ! tt)) (from ! (stop !)) (init ! 34 refl zero-column) $
         -- the room, and the columns as slices
         assigns ! (of-opd ! (load ! (from ! (fld ! refl (stop !))) (look-in ! 40 (sub ! 1 refl (whole !))))) (from ! (stop !)) (init ! 30 refl (tt, record { fits = room₇ .0 })) $
         assigns ! (addr ! (from ! (stop !))) (from ! (stop !)) (init ! 28 refl (tt, tt)) $ assigns ! (agg ! (and-then ! (load ! (from ! (stop !)) (look ! 28 refl)) (and-then ! (lit ! tt) (no-more !)))) (from ! (stop !)) (init ! 26 refl (tt, (tt, (record { fits = lit< tt }, tt)))) $
         assigns ! (addr ! (from ! (stop !))) (from ! (stop !)) (init ! 24 refl (tt, tt)) $ assigns ! (agg ! (and-then ! (load ! (from ! (stop !)) (look ! 24 refl)) (and-then ! (lit ! tt) (no-more !)))) (from ! (stop !)) (init ! 22 refl (tt, (tt, (record { fits = lit< tt }, tt)))) $
         assigns ! (addr ! (from ! (stop !))) (from ! (stop !)) (init ! 20 refl (tt, tt)) $ assigns ! (agg ! (and-then ! (load ! (from ! (stop !)) (look ! 20 refl)) (and-then ! (lit ! tt) (no-more !)))) (from ! (stop !)) (init ! 18 refl (tt, (tt, (record { fits = lit< tt }, tt)))) $
         -- each column is lent
-        move ! (38 ∷ []) $ lends-array ! tt (named 2) 256 l₈ column-room (λ ν₁ δ₁.
-        move ! (39 ∷ []) $ lends-array ! tt (named 3) 256 l₉ column-room (λ ν₂ δ₂.
-        move ! (40 ∷ []) $ lends-array ! tt (named 4) 256 l₁₀ column-room (λ ν₃ δ₃.
+        move ! (38 ∷ []) $ lends-array ! tt (named 2) mostNames l₈ column-room (λ ν₁ δ₁.
+        move ! (39 ∷ []) $ lends-array ! tt (named 3) mostNames l₉ column-room (λ ν₂ δ₂.
+        move ! (40 ∷ []) $ lends-array ! tt (named 4) mostNames l₁₀ column-room (λ ν₃ δ₃.
         -- what the parameters own, and the tokens, are taken apart
         move ! (63 ∷ []) $ fsplit ! $ move ! (1 ∷ []) $ fsplit ! $ move ! (1 ∷ []) $ fsplit ! $ move ! (1 ∷ []) $ fsplit ! $ move ! (1 ∷ []) $ fsplit ! $ move ! (1 ∷ []) $ fsplit ! $ move ! (1 ∷ []) $ fsplit ! $
         move ! (70 ∷ []) $ split ! $ move ! (1 ∷ []) $ split ! $ move ! (1 ∷ []) $ split ! $
         move ! (11 ∷ []) $ use1 W (‵ own-query ⊛ ‵ own-query) (shr-slice-copy 𝓤 H A W (named 0) κ₁ u8 .twice (ref b₁ o₁ γ₁ s) (v₁ ∷ [])) $ split ! $
         move ! (8 ∷ []) $ use1 W (‵ own-words ⊛ ‵ own-words) (shr-slice-copy 𝓤 H A W (named 1) κ₂ u32 .twice (ref b₂ o₂ γ₂ w) (v₆ ∷ [])) $ split ! $
-        -- [words′; words; query′; query; κ₃; true2; κ₂; κ₁; rows; true1; allowance; q; p; measure; t3; sizes; back3; t2; shared; back2; t1; ids; back1; _27; _26; _25; _24; _23; _22; _21; _20; _19; _18; _17; _16; _15; _14; _13; _12; _11; _7; _6; _5; _4; _3; _2; _1; _0]
-        -- the call of fill_columns
+        -- [words, and a copy; query, and a copy; the tokens of κ₃, κ₂, κ₁; rows; allowance; q; p; measure; of each column a token, the slice and what brings it back; the locals but _8, _9, _10]
+        -- the call of fill_columns: the columns come filled
         move ! (7 ∷ 6 ∷ 2 ∷ 0 ∷ 20 ∷ 21 ∷ 17 ∷ 18 ∷ 14 ∷ 15 ∷ []) $ join ! $ join ! $ join ! $ join ! $ join ! $ join ! $ join ! $ join ! $ join ! $
         use1 W (raw (Fill 𝓤 H A mem run .pre (to-fill ν₁ ν₂ ν₃ δ₁ δ₂ δ₃ l₈ l₉ l₁₀))) (asks-fill ν₁ ν₂ ν₃ δ₁ δ₂ δ₃ l₈ l₉ l₁₀) $
         calls-at ! fm (Fill 𝓤 H A mem run) fills (to-fill ν₁ ν₂ ν₃ δ₁ δ₂ δ₃ l₈ l₉ l₁₀) (and-then ! (load ! (from ! (stop !)) (look ! 63 refl)) (and-then ! (load ! (from ! (stop !)) (look ! 61 refl)) (and-then ! (load ! (from ! (stop !)) (look ! 59 refl)) (and-then ! (load ! (from ! (stop !)) (look ! 57 refl)) (and-then ! (load ! (from ! (stop !)) (look ! 55 refl)) (and-then ! (load ! (from ! (stop !)) (look ! 53 refl)) (and-then ! (load ! (from ! (stop !)) (look ! 44 refl)) (and-then ! (load ! (from ! (stop !)) (look ! 40 refl)) (and-then ! (load ! (from ! (stop !)) (look ! 36 refl)) (and-then ! (load ! (from ! (stop !)) (look ! 32 refl)) (no-more !))))))))))) (λ v.
@@ -357,27 +363,27 @@ module _ {M : Type 1} (𝓤 : URA M) (H : Heap 𝓤) (A : Atoms 𝓤) (W : Given
         move ! (4 ∷ []) $ split ! $ move ! (1 ∷ []) $ peeks ! answer-type.the-row (Is answer-type.the-row) (shows 𝓤 H A answer-type.the-row) r (v ∷ []) (λ is-r.
         land ! (from ! (stop !)) (init ! 51 refl (answer-typed r v is-r)) $
         move ! (1 ∷ []) $ split ! $ move ! (1 ∷ []) $ split ! $ move ! (1 ∷ []) $ split ! $ move ! (1 ∷ []) $ split ! $ move ! (1 ∷ []) $ split ! $
-        -- the columns come back, and are shown
-        move ! (3 ∷ 23 ∷ 10 ∷ []) $ array-back ! tt 256 l₈ (is ws) $
-        move ! (3 ∷ 21 ∷ 9 ∷ []) $ array-back ! tt 256 l₉ (ss ws) $
-        move ! (2 ∷ 19 ∷ 7 ∷ []) $ array-back ! tt 256 l₁₀ (zs ws) $
+        -- the columns are the function's own again
+        move ! (3 ∷ 23 ∷ 10 ∷ []) $ array-back ! tt mostNames l₈ (is ws) $
+        move ! (3 ∷ 21 ∷ 9 ∷ []) $ array-back ! tt mostNames l₉ (ss ws) $
+        move ! (2 ∷ 19 ∷ 7 ∷ []) $ array-back ! tt mostNames l₁₀ (zs ws) $
         assigns ! (addr ! (from ! (stop !))) (from ! (stop !)) (init ! 32 refl (tt, tt)) $ assigns ! (agg ! (and-then ! (load ! (from ! (stop !)) (look ! 32 refl)) (and-then ! (lit ! tt) (no-more !)))) (from ! (stop !)) (init ! 30 refl (tt, (tt, (record { fits = lit< tt }, tt)))) $
         assigns ! (addr ! (from ! (stop !))) (from ! (stop !)) (init ! 28 refl (tt, tt)) $ assigns ! (agg ! (and-then ! (load ! (from ! (stop !)) (look ! 28 refl)) (and-then ! (lit ! tt) (no-more !)))) (from ! (stop !)) (init ! 26 refl (tt, (tt, (record { fits = lit< tt }, tt)))) $
         assigns ! (addr ! (from ! (stop !))) (from ! (stop !)) (init ! 24 refl (tt, tt)) $ assigns ! (agg ! (and-then ! (load ! (from ! (stop !)) (look ! 24 refl)) (and-then ! (lit ! tt) (no-more !)))) (from ! (stop !)) (init ! 22 refl (tt, (tt, (record { fits = lit< tt }, tt)))) $
-        -- the call of rows_in
+        -- the call of rows_in: how many rows there are to write
         owned ! answer-type.the-row (Is answer-type.the-row) answer-makes r (v ∷ []) is-r $ use1 W (raw (Count 𝓤 H A mem run .pre (to-count r v))) (asks-count r v) $
         calls-at ! fm (Count 𝓤 H A mem run) counts (to-count r v) (and-then ! (load ! (from ! (stop !)) (look ! 51 refl)) (no-more !)) (λ u.
         use1 W (later (some (λ (n : ℕ). (‵ ftrue ⊛ ‵ (usize .own n (u ∷ []))) ⊛ raw (ensured 𝓤 H A rows-in.ended (rows-in.clauses 𝓤 H A mem run) tt (r, tt) tt n)))) (id⊢ 𝓤 _) $ await ! tt $ pick ! (λ n.
         split ! $ move ! (1 ∷ []) $ use1 W (raw (fact 𝓤 (n ≡ rowsIn r))) (said-count r n) $ heard ! (n ≡ rowsIn r) (λ en.
         split ! $ move ! (1 ∷ []) $ peeks ! usize (Is usize) (shows 𝓤 H A usize) n (u ∷ []) (λ is-n.
         land ! (from ! (stop !)) (store ! 50 refl (uint-lawful 𝓤 H A W w64 .typed n _ is-n .0)) $ rewrite ! 50 (λ (x : Val). ‵ (fat fullShare Word l₁₂ 0 x)) (ap only (is-n .0) ∙ ap (vint w64) en) refl $
-        -- the rows, lent on
+        -- the lent rows, as they are passed on
         assigns ! (addr ! (from ! (fld ! refl (hop ! (look-in ! 57 (sub ! 0 refl (whole !))) (stop !))))) (from ! (stop !)) (init ! 22 refl (tt, tt)) $ assigns ! (agg ! (and-then ! (load ! (from ! (stop !)) (look ! 22 refl)) (and-then ! (load ! (from ! (fld ! refl (stop !))) (look-in ! 57 (sub ! 1 refl (whole !)))) (no-more !)))) (from ! (stop !)) (init ! 20 refl (tt, (tt, (record { fits = room₇ .0 }, tt)))) $
         -- each column is shown
-        move ! (4 ∷ []) $ shows-array ! tt (named 0) 256 l₈ (is ws) (e₁ ∙ zeros-long) column-room (λ μ₁ η₁.
-        move ! (6 ∷ []) $ shows-array ! tt (named 1) 256 l₉ (ss ws) (e₂ ∙ zeros-long) column-room (λ μ₂ η₂.
-        move ! (8 ∷ []) $ shows-array ! tt (named 2) 256 l₁₀ (zs ws) (e₃ ∙ zeros-long) column-room (λ μ₃ η₃.
-        -- the call of put_rows
+        move ! (4 ∷ []) $ shows-array ! tt (named 0) mostNames l₈ (is ws) (e₁ ∙ zeros-long) column-room (λ μ₁ η₁.
+        move ! (6 ∷ []) $ shows-array ! tt (named 1) mostNames l₉ (ss ws) (e₂ ∙ zeros-long) column-room (λ μ₂ η₂.
+        move ! (8 ∷ []) $ shows-array ! tt (named 2) mostNames l₁₀ (zs ws) (e₃ ∙ zeros-long) column-room (λ μ₃ η₃.
+        -- the call of put_rows: the rows go for good, and what says their last list comes back
         move ! (6 ∷ 3 ∷ 0 ∷ 18 ∷ 7 ∷ 4 ∷ 1 ∷ 20 ∷ []) $ join ! $ join ! $ join ! $ join ! $ join ! $ join ! $ join ! $
         use1 W (raw (Put 𝓤 H A mem run .pre (to-put μ₁ μ₂ μ₃ η₁ η₂ η₃ l₈ l₉ l₁₀ (is ws) (ss ws) (zs ws) (rowsIn r)))) (asks-put μ₁ μ₂ μ₃ η₁ η₂ η₃ l₈ l₉ l₁₀ (is ws) (ss ws) (zs ws) (rowsIn r) (fits-row ws r filled) (fit-put ws r filled e₁ e₂ e₃)) $
         calls-at ! fm (Put 𝓤 H A mem run) puts (to-put μ₁ μ₂ μ₃ η₁ η₂ η₃ l₈ l₉ l₁₀ (is ws) (ss ws) (zs ws) (rowsIn r)) (and-then ! (load ! (from ! (stop !)) (look ! 31 refl)) (and-then ! (load ! (from ! (stop !)) (look ! 27 refl)) (and-then ! (load ! (from ! (stop !)) (look ! 23 refl)) (and-then ! (load ! (from ! (stop !)) (look ! 49 refl)) (and-then ! (load ! (from ! (stop !)) (look ! 19 refl)) (no-more !)))))) (λ x.
@@ -389,9 +395,9 @@ module _ {M : Type 1} (𝓤 : URA M) (H : Heap 𝓤) (A : Atoms 𝓤) (W : Given
         land ! (from ! (stop !)) (init ! 38 refl (nothing-lawful 𝓤 H A W .typed z _ is-z .0)) $
         move ! (1 ∷ []) $ split ! $ move ! (1 ∷ []) $ split ! $ move ! (1 ∷ []) $ split ! $ move ! (1 ∷ []) $ split ! $
         -- the columns are let go
-        move ! (4 ∷ 10 ∷ []) $ array-freed ! tt 256 l₈ (is ws) $
-        move ! (4 ∷ 9 ∷ []) $ array-freed ! tt 256 l₉ (ss ws) $
-        move ! (4 ∷ 8 ∷ []) $ array-freed ! tt 256 l₁₀ (zs ws) $
+        move ! (4 ∷ 10 ∷ []) $ array-freed ! tt mostNames l₈ (is ws) $
+        move ! (4 ∷ 9 ∷ []) $ array-freed ! tt mostNames l₉ (ss ws) $
+        move ! (4 ∷ 8 ∷ []) $ array-freed ! tt mostNames l₁₀ (zs ws) $
         -- the answer is returned
         assigns ! (of-opd ! (load ! (from ! (stop !)) (look ! 55 refl))) (from ! (stop !)) (init ! 74 refl (answer-typed r v is-r)) $
         returns ! (look ! 74 refl) $
