@@ -163,12 +163,12 @@ rows-columns w query places a b c x y z =
 
 -- ---- what `fill_columns` leaves
 
--- a column that holds as many as there can be names, cut at the room, or at the most names where that is less, is as long as the cut
-pub length-cut : (n room : ℕ) (l : List ℕ) → n ≡ min room mostNames → length l ≡ mostNames → length (take n l) ≡ n
-length-cut n room l e f = let h = min-le-right room mostNames in length-take-le n l (let g : n ≤ length l = omega arith in g)
+-- a column cut at the room, or at a number within the column where that is less, is as long as the cut
+pub length-cut : (n room most : ℕ) (l : List ℕ) → n ≡ min room most → most ≤ length l → length (take n l) ≡ n
+length-cut n room most l e f = let h = min-le-right room most in length-take-le n l (let g : n ≤ length l = omega arith in g)
 
-pub cut-counted : (n room : ℕ) (l : List ℕ) → n ≡ min room mostNames → length l ≡ mostNames → n ≡ length (take n l)
-cut-counted n room l e f = sym (length-cut n room l e f)
+pub cut-counted : (n room most : ℕ) (l : List ℕ) → n ≡ min room most → most ≤ length l → n ≡ length (take n l)
+cut-counted n room most l e f = sym (length-cut n room most l e f)
 
 room-three : (a b c : List ℕ) (n : ℕ) → length a ≡ n → length b ≡ n → length c ≡ n → roomOf a b c ≡ n
 room-three a b c n e f g =
@@ -177,13 +177,14 @@ room-three a b c n e f g =
 
 -- a search of columns that are cut at the room, with whatever stands behind the cuts
 pub filled : (s : List ℕ) (m p q allowance : ℕ) (w : List ℕ) (room n : ℕ) (r : Answer) (i j k a b c x y z : List ℕ)
-    → n ≡ min room mostNames → length a ≡ n → length b ≡ n → length c ≡ n
+    → n ≡ min room mostNames
     → r ≡ searchOf s m p q allowance w (roomOf a b c)
     → i ≡ over (idColumn w (givenBy r (answersOf w m p q (featuresOf s)))) a
     → j ≡ over (sharedColumn w (featuresOf s) (givenBy r (answersOf w m p q (featuresOf s)))) b
     → k ≡ over (sizeColumn w (givenBy r (answersOf w m p q (featuresOf s)))) c
+    → length a ≡ n → length b ≡ n → length c ≡ n
     → Filled s m p q allowance w room r (i ++ x) (j ++ y) (k ++ z)
-filled s m p q allowance w room n r i j k a b c x y z cut la lb lc e ei ej ek = record {
+filled s m p q allowance w room n r i j k a b c x y z cut e ei ej ek la lb lc = record {
   answer = right;
   rows =
       ap (λ (l : ℕ). rowsFrom l (i ++ x) (j ++ y) (k ++ z)) (comes .0)

@@ -1,5 +1,5 @@
 -- `fill_columns` meets its contract: the columns are cut at the room, and a good index has no more names than they hold.
-use lib.ListN.{take, drop}
+use native.Mathlib.Omega.{arith}
 use borrow.Author.Needs.{needs}
 use Rattle.rows.proofs.Answers.{length-cut, cut-counted, filled}
 use Rattle.rows.proofs.fill_columns.Statement.{statement}
@@ -12,19 +12,19 @@ slice-relend-prefix-search : tie.Need-slice-relend-prefix-search
 slice-relend-prefix-search c = search needs
 
 slice-aggregate-search : tie.Need-slice-aggregate-search
-slice-aggregate-search c = search (needs, cut-counted)
+slice-aggregate-search c = let b = c .before .before .before .before .before .before .before in cut-counted _ _ _ _ (c .before .smaller .ensures) (omega (arith, b .pre .0, b .pre .1, b .pre .2))
 
 slice-relend-prefix-search-2 : tie.Need-slice-relend-prefix-search-2
 slice-relend-prefix-search-2 c = search needs
 
 slice-aggregate-search-2 : tie.Need-slice-aggregate-search-2
-slice-aggregate-search-2 c = search (needs, cut-counted)
+slice-aggregate-search-2 c = let b = c .before .before .before .before .before .before .before .before in cut-counted _ _ _ _ (c .before .before .smaller .ensures) (omega (arith, b .pre .0, b .pre .1, b .pre .2))
 
 slice-relend-prefix-search-3 : tie.Need-slice-relend-prefix-search-3
 slice-relend-prefix-search-3 c = search needs
 
 slice-aggregate-search-3 : tie.Need-slice-aggregate-search-3
-slice-aggregate-search-3 c = search (needs, cut-counted)
+slice-aggregate-search-3 c = let b = c .before .before .before .before .before .before .before .before .before in cut-counted _ _ _ _ (c .before .before .before .smaller .ensures) (omega (arith, b .pre .0, b .pre .1, b .pre .2))
 
 search-requires : tie.Need-search-requires
 search-requires c κs = search needs
@@ -44,15 +44,12 @@ returns c =
     let f = c .before .before .before .before .before .before .search in
     let n = c .before .before .before .before .before .before .before .before .before .before .smaller .result in
     let e = c .before .before .before .before .before .before .before .before .before .before .smaller .ensures in
-    let i = b .args .ids .now in
-    let j = b .args .shared .now in
-    let k = b .args .sizes .now in
+    let long-ids = length-cut n (b .args .room) _ (b .args .ids .now) e (omega (arith, b .pre .0)) in
+    let long-shared = length-cut n (b .args .room) _ (b .args .shared .now) e (omega (arith, b .pre .1)) in
+    let long-sizes = length-cut n (b .args .room) _ (b .args .sizes .now) e (omega (arith, b .pre .2)) in
     filled (b .args .query .now) (b .args .measure) (b .args .p) (b .args .q) (b .args .allowance) (b .args .words .now) (b .args .room) n (f .result)
-    _ _ _ (take n i) (take n j) (take n k) (drop n i) (drop n j) (drop n k) e
-    (length-cut n (b .args .room) i e (b .pre .0))
-    (length-cut n (b .args .room) j e (b .pre .1))
-    (length-cut n (b .args .room) k e (b .pre .2))
-    (f .ensures .0) (f .ensures .1 .0) (f .ensures .1 .1 .0) (f .ensures .1 .1 .1)
+    _ _ _ _ _ _ _ _ _ e (f .ensures .0) (f .ensures .1 .0) (f .ensures .1 .1 .0) (f .ensures .1 .1 .1)
+    (search needs) (search needs) (search needs)
 
 pub fill-columns-spec : {M : Type 1} → statement M
 fill-columns-spec =
