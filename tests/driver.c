@@ -202,7 +202,7 @@ static void list(void)
     uint64_t feature = number("feature", UINT32_MAX);
     struct slice index = words();
     end();
-    struct rushgirdle_list_answer a = rushgirdle_list(part(&index), index.bytes / 4, size, feature);
+    rushgirdle_list_answer a = rushgirdle_list(part(&index), index.bytes / 4, size, feature);
     check_slice(&index);
     printf("%zu %zu", (size_t)a.start, (size_t)a.count);
     if (a.start > index.bytes / 4 || a.count > index.bytes / 4 - a.start)
@@ -218,7 +218,7 @@ static void build(void)
     size_t room = (size_t)number("length", SIZE_MAX / 8);
     struct slice lines = bytes("register"), index = slice_of(room * sizeof(uint32_t), LENT);
     end();
-    struct rushgirdle_build_answer a = rushgirdle_build(part(&lines), lines.bytes, part(&index), room);
+    rushgirdle_build_answer a = rushgirdle_build(part(&lines), lines.bytes, part(&index), room);
     check_slice(&lines);
     check_slice(&index);
     printf("%u %u", (unsigned)a.number, (unsigned)a.line);
@@ -247,7 +247,7 @@ static void search(void)
     struct slice query = bytes("query"), index = words();
     end();
     struct slice ids = column(room), shared = column(room), sizes = column(room);
-    struct rushgirdle_search_answer a =
+    rushgirdle_search_answer a =
         rushgirdle_search(part(&query), query.bytes, measure, p, q, allowance, part(&index), index.bytes / 4,
                           part(&ids), room, part(&shared), room, part(&sizes), room);
     struct slice *lent[] = { &query, &index, &ids, &shared, &sizes };
@@ -269,29 +269,29 @@ static void read_frame(unsigned kind, struct slice *buffer)
     size_t length = line.bytes;
     switch (kind) {
     case 0x4E: {
-        struct rushgirdle_name_answer a = rushgirdle_read_name(at, length, part(buffer), buffer->bytes);
+        rushgirdle_name_answer a = rushgirdle_read_name(at, length, part(buffer), buffer->bytes);
         printf("%u %u %zu", (unsigned)a.number, (unsigned)a.id, (size_t)a.len);
         break;
     }
     case 0x51: {
-        struct rushgirdle_query_answer a = rushgirdle_read_query(at, length, part(buffer), buffer->bytes);
+        rushgirdle_query_answer a = rushgirdle_read_query(at, length, part(buffer), buffer->bytes);
         printf("%u %u %u %u %u %zu", (unsigned)a.number, (unsigned)a.measure, (unsigned)a.p, (unsigned)a.q,
                (unsigned)a.allowance, (size_t)a.len);
         break;
     }
     case 0x52: {
-        struct rushgirdle_row_answer a = rushgirdle_read_row(at, length);
+        rushgirdle_row_answer a = rushgirdle_read_row(at, length);
         printf("%u %u %u %u", (unsigned)a.number, (unsigned)a.id, (unsigned)a.shared, (unsigned)a.size);
         break;
     }
     case 0x45: {
-        struct rushgirdle_end_answer a = rushgirdle_read_end(at, length);
+        rushgirdle_end_answer a = rushgirdle_read_end(at, length);
         printf("%u %u %u %u %u", (unsigned)a.number, (unsigned)a.rows, (unsigned)a.touches, (unsigned)a.p,
                (unsigned)a.q);
         break;
     }
     case 0x58: {
-        struct rushgirdle_refusal_answer a = rushgirdle_read_refusal(at, length);
+        rushgirdle_refusal_answer a = rushgirdle_read_refusal(at, length);
         printf("%u %u %u", (unsigned)a.number, (unsigned)a.refusal, (unsigned)a.touches);
         break;
     }
@@ -307,7 +307,7 @@ static void write_frame(unsigned kind, struct slice *buffer)
     uint8_t *out = part(buffer);
     size_t room = buffer->bytes;
     struct slice name = slice_of(0, 0);
-    struct rushgirdle_write_answer a;
+    rushgirdle_write_answer a;
     switch (kind) {
     case 0x4E: {
         uint16_t id = (uint16_t)number("id", UINT16_MAX);
