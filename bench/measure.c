@@ -79,8 +79,9 @@ static void pool_name(char *name)
                                          "QUARRY", "RIVERSIDE", "STATION", "TINSIDE", "UNION", "VALE", "WATERLOO" };
     static const char *const kind[] = { " LIDO", " POOL", " BATHS", " LEISURE CENTRE", " SWIM", " BATH", "", " SPA" };
 #define PICK(list) pick(list, sizeof list / sizeof *list)
-    snprintf(name, LONGEST + 1, "%s%s%s", PICK(before), PICK(place), PICK(kind));
+    const char *first = PICK(before), *middle = PICK(place), *last = PICK(kind);
 #undef PICK
+    snprintf(name, LONGEST + 1, "%s%s%s", first, middle, last);
 }
 
 /* Pool names one after the other, cut at a length. */
