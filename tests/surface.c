@@ -1,8 +1,11 @@
 /* Every function of include/rushgirdle.h, at the edges: each number from 0 to 11, every field, every lent element before, in and behind what is
- * written, and NULL with length 0. What is expected was worked out by hand from docs/RULE.md. Prints what fails, and at the end
- * 'N passed, M failed'. */
+ * written, and NULL with length 0; then once more with every slice just before memory that cannot be touched. What is expected was worked out by
+ * hand from docs/RULE.md. Prints what fails, and at the end 'N passed, M failed'. */
+#define _DEFAULT_SOURCE
 #include <stdio.h>
 #include <string.h>
+#include <sys/mman.h>
+#include <unistd.h>
 
 #include "rushgirdle.h"
 
@@ -396,6 +399,61 @@ static void test_write(void)
     EXPECT(not_written(rushgirdle_write_name(buffer, 600, 1, name, 256), 2));
 }
 
+/* ---- slices that end where memory ends */
+
+/* a copy of the bytes, or as many bytes A5, before a page that cannot be read or written */
+static void *fenced(const void *from, size_t n)
+{
+    size_t page = (size_t)sysconf(_SC_PAGESIZE), whole = (n / page + 1) * page;
+    char *block = mmap(NULL, whole + page, PROT_READ | PROT_WRITE, MAP_PRIVATE | MAP_ANONYMOUS, -1, 0);
+    if (block == MAP_FAILED || mprotect(block + whole, page, PROT_NONE) != 0) {
+        printf("FAILED: no memory\n0 passed, 1 failed\n");
+        fflush(stdout);
+        _exit(1);
+    }
+    memset(block, 0xA5, whole);
+    if (from != NULL)
+        memcpy(block + whole - n, from, n);
+    return block + whole - n;
+}
+
+static void test_fences(void)
+{
+    uint8_t *lines = fenced(two_lines, strlen(two_lines));
+    uint32_t *w = fenced(NULL, sizeof two_words);
+    rushgirdle_build_answer b = rushgirdle_build(lines, strlen(two_lines), w, 23);
+    EXPECT(b.number == 0 && memcmp(w, two_words, sizeof two_words) == 0);
+    EXPECT(rushgirdle_good(w, 23));
+    for (size_t n = 0; n < 23; n++) /* every shorter slice, its end at the fence too */
+        EXPECT(!rushgirdle_good(fenced(two_words, 4 * n), n));
+    EXPECT(rushgirdle_list(w, 23, 3, 1090519041).start == 21);
+    uint8_t *query = fenced("A", 1);
+    uint32_t *i = fenced(NULL, 8), *h = fenced(NULL, 8), *z = fenced(NULL, 8);
+    rushgirdle_search_answer a = rushgirdle_search(query, 1, 1, 1, 1, 6, w, 23, i, 2, h, 2, z, 2);
+    EXPECT(a.number == 0 && a.rows == 2 && a.touches == 6 && a.p == 1 && a.q == 1);
+    EXPECT(i[0] == 1 && i[1] == 2 && h[0] == 3 && h[1] == 3 && z[0] == 3 && z[1] == 3);
+    EXPECT(i[-1] == KEPT && h[-1] == KEPT && z[-1] == KEPT);
+
+    const char *line = "5103123456789ABCDEF0025A59\n";
+    uint8_t *whole = fenced(line, 27), *name = fenced(NULL, 2), *out = fenced(NULL, 27);
+    rushgirdle_query_answer q = rushgirdle_read_query(whole, 27, name, 2);
+    EXPECT(q.number == 0 && q.len == 2 && name[-1] == 0xA5 && name[0] == 'Z' && name[1] == 'Y');
+    rushgirdle_write_answer t = rushgirdle_write_query(out, 27, q.measure, q.p, q.q, q.allowance, name, q.len);
+    EXPECT(t.number == 0 && t.len == 27 && out[-1] == 0xA5 && memcmp(out, line, 27) == 0);
+    for (size_t n = 0; n < 27; n++) { /* every shorter line and buffer */
+        EXPECT(rushgirdle_read_query(fenced(line, n), n, name, 2).number == 11);
+        EXPECT(rushgirdle_write_query(fenced(NULL, n), n, 3, 1, 1, 1, name, 2).number == 8);
+    }
+    EXPECT(rushgirdle_read_name(fenced("4EABCD044C414E45\n", 17), 17, fenced(NULL, 4), 4).number == 0);
+    EXPECT(rushgirdle_read_row(fenced("521234AB56\n", 11), 11).number == 0);
+    EXPECT(rushgirdle_read_end(fenced("45123456789ABCDEF01122\n", 23), 23).number == 0);
+    EXPECT(rushgirdle_read_refusal(fenced("5807FEDCBA98\n", 13), 13).number == 0);
+    EXPECT(rushgirdle_write_name(fenced(NULL, 17), 17, 1, fenced("LANE", 4), 4).number == 0);
+    EXPECT(rushgirdle_write_row(fenced(NULL, 11), 11, 1, 2, 3).number == 0);
+    EXPECT(rushgirdle_write_end(fenced(NULL, 23), 23, 1, 2, 3, 4).number == 0);
+    EXPECT(rushgirdle_write_refusal(fenced(NULL, 13), 13, 1, 2).number == 0);
+}
+
 int main(void)
 {
     test_build();
@@ -404,6 +462,7 @@ int main(void)
     test_search();
     test_read();
     test_write();
+    test_fences();
     printf("%u passed, %u failed\n", passed, failed);
     return failed == 0 ? 0 : 1;
 }
