@@ -15,6 +15,8 @@
  *
  * What is promised
  *   - The number, every field, and every lent element afterwards are fixed by the rule. Nothing but the lent elements is written.
+ *   - What an answer tells a caller to read lies within what was lent: start + count is at most the number of words, rows at most the length of
+ *     each column, len at most the length of the buffer.
  *   - A refused search writes no row, a refused read no byte of the name, a refused write no byte of the line. A refused build sets every word
  *     to 4294967295.
  *   - No memory is taken, no pointer is kept, nothing is remembered from call to call: any number of threads may call at once.

@@ -154,8 +154,8 @@ pub extern "C" fn rushgirdle_search(
             p,
             q,
         },
-        search::Answer::Refused { number, touches } => SearchAnswer {
-            number,
+        search::Answer::Refused { number: n, touches } => SearchAnswer {
+            number: n,
             rows: 0,
             touches,
             p: 0,

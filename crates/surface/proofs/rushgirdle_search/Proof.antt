@@ -1,8 +1,7 @@
 -- `rushgirdle_search` meets its contract: in each arm the answer is that of the variant, set out; the columns are the layer's.
-use mathlib.Core.Path.{sym, ap, _∙_}
+use mathlib.Core.Path.{sym}
 use Rattle.search.specs.Answers.{idColumn, sharedColumn, sizeColumn}
-use Rattle.surface.specs.Flat.{searchAnswer}
-use Rattle.surface.proofs.Columns.{column-as}
+use Rattle.surface.proofs.Columns.{flat-search}
 use borrow.Author.Needs.{needs}
 use Rattle.surface.proofs.rushgirdle_search.Statement.{statement}
 use Rattle.surface.proofs.rushgirdle_search.Tie as tie
@@ -27,8 +26,8 @@ same-length-3 c = search needs
 
 returns : tie.Need-returns
 returns c =
-    let e = c .before .before .before .before .before .before .before .before .before .search .ensures in
-    (ap searchAnswer (sym (c .before .a .given .1) ∙ e .0), (column-as (e .0) (idColumn _) _ _ _ (e .1 .0), (column-as (e .0) (sharedColumn _ _) _ _ _ (e .1 .1 .0), column-as (e .0) (sizeColumn _) _ _ _ (e .1 .1 .1))))
+    flat-search (idColumn _) (sharedColumn _ _) (sizeColumn _) _ _ _ _ _ _ _ (sym (c .before .a .given .1))
+    (c .before .before .before .before .before .before .before .before .before .search .ensures)
 
 same-length-4 : tie.Need-same-length-4
 same-length-4 c = search needs
@@ -41,8 +40,8 @@ same-length-6 c = search needs
 
 returns-2 : tie.Need-returns-2
 returns-2 c =
-    let e = c .before .before .before .before .before .before .before .before .before .search .ensures in
-    (ap searchAnswer (sym (c .before .a2 .given .1) ∙ e .0), (column-as (e .0) (idColumn _) _ _ _ (e .1 .0), (column-as (e .0) (sharedColumn _ _) _ _ _ (e .1 .1 .0), column-as (e .0) (sizeColumn _) _ _ _ (e .1 .1 .1))))
+    flat-search (idColumn _) (sharedColumn _ _) (sizeColumn _) _ _ _ _ _ _ _ (sym (c .before .a2 .given .1))
+    (c .before .before .before .before .before .before .before .before .before .search .ensures)
 
 pub rushgirdle-search-spec : {M : Type 1} → statement M
 rushgirdle-search-spec =
