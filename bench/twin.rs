@@ -167,10 +167,11 @@ fn one_size(index: &Index<'_>, features: &[u32], size: u32, least: usize, budget
     let x = features.len();
     let mut starts = [0u32; FEATURES];
     let mut keys = [0u32; FEATURES];
+    let rows = &index.rows[index.rows.partition_point(|row| row[0] < size)..];
+    let rows = &rows[..rows.partition_point(|row| row[0] == size)];
     for (at, feature) in features.iter().enumerate() {
-        let wanted = key(size, *feature);
-        let row = index.rows.partition_point(|row| key(row[0], row[1]) < wanted);
-        if let Some(row) = index.rows.get(row).filter(|row| key(row[0], row[1]) == wanted) {
+        let row = rows.partition_point(|row| row[1] < *feature);
+        if let Some(row) = rows.get(row).filter(|row| row[1] == *feature) {
             starts[at] = row[2];
             keys[at] = row[3] << 8;
         }
