@@ -26,8 +26,8 @@ same-length-3 c = search needs
 
 returns : tie.Need-returns
 returns c =
-    flat-search (idColumn _) (sharedColumn _ _) (sizeColumn _) _ _ _ _ _ _ _ (sym (c .before .a .given .1))
-    (c .before .before .before .before .before .before .before .before .before .search .ensures)
+    let h = flat-search (idColumn _) (sharedColumn _ _) (sizeColumn _) _ _ _ _ _ _ _ (sym (c .before .a .given .1)) (c .before .before .before .before .before .before .before .before .before .search .ensures) in
+    (h .0, (h .1 .0, (h .1 .1 .0, h .1 .1 .1)))
 
 same-length-4 : tie.Need-same-length-4
 same-length-4 c = search needs
@@ -40,8 +40,8 @@ same-length-6 c = search needs
 
 returns-2 : tie.Need-returns-2
 returns-2 c =
-    flat-search (idColumn _) (sharedColumn _ _) (sizeColumn _) _ _ _ _ _ _ _ (sym (c .before .a2 .given .1))
-    (c .before .before .before .before .before .before .before .before .before .search .ensures)
+    let h = flat-search (idColumn _) (sharedColumn _ _) (sizeColumn _) _ _ _ _ _ _ _ (sym (c .before .a2 .given .1)) (c .before .before .before .before .before .before .before .before .before .search .ensures) in
+    (h .0, (h .1 .0, (h .1 .1 .0, h .1 .1 .1)))
 
 pub rushgirdle-search-spec : {M : Type 1} → statement M
 rushgirdle-search-spec =
