@@ -2,6 +2,8 @@
 //! proof. bench/measure.c holds the two side by side. Build it as a static library; its names are those of
 //! include/rushgirdle.h with `twin_` in front.
 
+#![allow(clippy::not_unsafe_ptr_arg_deref)]
+
 use std::slice::{from_raw_parts, from_raw_parts_mut};
 
 const NAMES: usize = 256;
@@ -163,7 +165,14 @@ fn question(query: &[u8], measure: u8, p: u16, q: u16) -> u8 {
 }
 
 /// The counts of one size's answers put at their names' places, and the touches; nothing past the budget.
-fn one_size(index: &Index<'_>, features: &[u32], size: u32, least: usize, budget: usize, answers: &mut [u32; NAMES]) -> Option<usize> {
+fn one_size(
+    index: &Index<'_>,
+    features: &[u32],
+    size: u32,
+    least: usize,
+    budget: usize,
+    answers: &mut [u32; NAMES],
+) -> Option<usize> {
     let x = features.len();
     let mut starts = [0u32; FEATURES];
     let mut keys = [0u32; FEATURES];
@@ -347,7 +356,9 @@ fn build(register: &[u8], words: &mut [u32]) -> BuildAnswer {
         *posting = (triple & 0xFFFF) as u32;
     }
     let mut place = 0;
-    for (row, run) in into.as_chunks_mut::<4>().0.iter_mut().zip(triples.chunk_by(|one, other| one >> 16 == other >> 16)) {
+    for (row, run) in
+        into.as_chunks_mut::<4>().0.iter_mut().zip(triples.chunk_by(|one, other| one >> 16 == other >> 16))
+    {
         *row = [(run[0] >> 48) as u32, (run[0] >> 16) as u32, place, run.len() as u32];
         place += run.len() as u32;
     }
@@ -371,7 +382,12 @@ pub extern "C" fn twin_good(words: *const u32, length: usize) -> bool {
 }
 
 #[no_mangle]
-pub extern "C" fn twin_build(register: *const u8, register_length: usize, words: *mut u32, length: usize) -> BuildAnswer {
+pub extern "C" fn twin_build(
+    register: *const u8,
+    register_length: usize,
+    words: *mut u32,
+    length: usize,
+) -> BuildAnswer {
     build(lent!(register, register_length), lent!(mut words, length))
 }
 

@@ -89,9 +89,9 @@ fn a_sweep_changes_every_word() {
             assert!(places.is_empty() || places == [at as usize % length]);
             refused[at as usize % length] += usize::from(!good(&changed));
         }
-        for place in 0..length {
+        for (place, times) in refused.into_iter().enumerate() {
             let feature = place >= 3 + names && place < 3 + names + 4 * rows && (place - 3 - names) % 4 == 1;
-            assert!(feature || refused[place] >= 2, "word {place} of {whole:?}");
+            assert!(feature || times >= 2, "word {place} of {whole:?}");
         }
     }
 }
