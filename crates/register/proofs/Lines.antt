@@ -7,7 +7,7 @@ use Prim.Native.Nat.{ℕ, suc, _+_, _≤_, _<_}
 use native.Mathlib.Numerals.{add-one}
 use native.Mathlib.Omega.{arith}
 use borrow.Author.Tests.{eq-eqb, ne-eqb}
-use lib.ListN.{length, getD, take, drop, drop-of-length-le}
+use lib.ListN.{length, getD, take, drop, length-drop, drop-of-length-le}
 use lib.Seq.{drop-cons}
 use lib.Dec.{eqb}
 use Rattle.register.specs.Lines.{lineFeed, joinLine, linesOf, lineLength}
@@ -31,6 +31,23 @@ pub line-some : (s : List ℕ) → 0 < length s → 1 ≤ lineLength s
 unfolding lineLength
 line-some [] h = absurd (omega arith)
 line-some (b ∷ s) h = omega arith
+
+-- and ends within the bytes
+length-most : (s : List ℕ) → lineLength s ≤ length s
+unfolding lineLength
+length-most [] = omega arith
+length-most (b ∷ s) = by-feed (eqb b lineFeed) (length-most s)
+  where
+    by-feed : (t : Bool) → lineLength s ≤ length s → 1 + cond t 0 (lineLength s) ≤ suc (length s)
+    by-feed true h = omega arith
+    by-feed false h = omega arith
+
+pub line-within : (s : List ℕ) (i : ℕ) → i ≤ length s → i + lineLength (drop i s) ≤ length s
+line-within s i h = let a = length-most (drop i s) in let b = length-drop i s in omega arith
+
+pub line-ends : (s : List ℕ) (at end : ℕ) → end ≡ at + lineLength (drop at s) → at ≤ length s
+    → (end ≡ at + lineLength (drop at s)) × (end ≤ length s)
+line-ends s at end e h = (e, (let w = line-within s at h in omega arith))
 
 -- ---- the first line and the others
 

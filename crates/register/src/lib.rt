@@ -21,14 +21,13 @@ pub struct Built {
 
 // ---- one line
 
-// Where the line that starts at `from` ends: behind its line feed, or at the end of the register.
-fn line_end(register: &[u8], from: usize) -> usize
-    requires { ⌜ from ≤ length (now register) ⌝ }
-    ensures { λ r. ⌜ (r ≡ from + lineLength (drop from (now (register .entry)))) × (r ≤ length (now (register .entry))) ⌝ }
+// Where the line that starts at `from` ends: behind its line feed, or at the end of the bytes. Beyond their end it is `from`.
+pub fn line_end(bytes: &[u8], from: usize) -> usize
+    ensures { λ r. ⌜ r ≡ from + lineLength (drop from (now (bytes .entry))) ⌝ }
 {
     let mut i = from;
-    while i < register.len() {
-        if register[i] == 10 {
+    while i < bytes.len() {
+        if bytes[i] == 10 {
             return i + 1;
         }
         i += 1;
@@ -155,8 +154,8 @@ fn take_lines(register: &[u8], name: &mut [u8], names: &mut [u32], triples: &mut
 
 // ---- the words
 
-// Sets every word to 4,294,967,295.
-fn fill(words: &mut [u32])
+// Sets every word to 4,294,967,295: an index that every search refuses.
+pub fn fill(words: &mut [u32])
     ensures { λ r. ⌜ now (words .exit) ≡ replicate (length (now (words .entry))) blank ⌝ }
 {
     let mut i = 0;

@@ -11,3 +11,5 @@ pub mod Answering
 pub mod Rows
 pub mod Whole
 pub mod Answered
+pub mod Listed
+pub mod Found

@@ -130,14 +130,13 @@ candidates-most w y ls t =
     count-below-mono (nameCount w) (λ (i : ℕ). eqb (nameSize w i) y && remains ls t 0 (nameId w i)) (λ (i : ℕ). eqb (nameSize w i) y)
     (λ i k e. and-left (eqb (nameSize w i) y) (remains ls t 0 (nameId w i)) e)
 
--- at most x times the names of the size
-pub touches-names : (w : List ℕ) → Good w → (y : ℕ) (query : List ℕ) (t : ℕ) → 1 ≤ t → t ≤ length query
-    → touchesAt w y (listsFor w y query) t ≤ length query * namesOf w y
+-- which is at most x times the names of the size
+pub candidates-names : (w : List ℕ) → Good w → (y : ℕ) (query : List ℕ) (t : ℕ) → 1 ≤ t → t ≤ length query
+    → signaturePostings (listsFor w y query) t + remaining w y (listsFor w y query) t 0 * (t - 1) ≤ length query * namesOf w y
 unfolding signaturePostings
-touches-names w g y query t low high =
+candidates-names w g y query t low high =
     let ls : List (List ℕ) = listsFor w y query in
     let n : length ls ≡ length query = length-lists w y query in
-    let a = touches-candidates w y ls t low (omega arith) in
     let c = candidates-most w y ls t in
     let s : ℕ = signatures (length ls) t in
     let k : length (take s ls) ≡ s = length-take-le s ls (omega arith) in
@@ -152,6 +151,15 @@ touches-names w g y query t low high =
   where
     lists-all : (w : List ℕ) → Good w → (y : ℕ) (query : List ℕ) → Each (λ (l : List ℕ). length l ≤ namesOf w y) (listsFor w y query)
     lists-all w g y query = unfold listsFor in (lists-most w g y (orderedFor w y query))
+
+-- and so are the touches
+pub touches-names : (w : List ℕ) → Good w → (y : ℕ) (query : List ℕ) (t : ℕ) → 1 ≤ t → t ≤ length query
+    → touchesAt w y (listsFor w y query) t ≤ length query * namesOf w y
+touches-names w g y query t low high =
+    let n : length (listsFor w y query) ≡ length query = length-lists w y query in
+    let a = touches-candidates w y (listsFor w y query) t low (omega arith) in
+    let b = candidates-names w g y query t low high in
+    omega arith
 
 -- ---- all sizes
 

@@ -9,13 +9,13 @@ use Rattle.register.proofs.line_end.Statement.{statement}
 use Rattle.register.proofs.line_end.Tie as tie
 
 abbrev Inv-loop : tie.InvT-loop
-Inv-loop register from i₀ i = (i ≤ length register) × (i + lineLength (drop i register) ≡ from + lineLength (drop from register))
+Inv-loop bytes from i₀ i = i + lineLength (drop i bytes) ≡ from + lineLength (drop from bytes)
 
 abbrev μ-loop : tie.MeasureT-loop
-μ-loop register from i₀ i = length register - i
+μ-loop bytes from i₀ i = length bytes - i
 
 loop-holds : tie.Need-loop-holds Inv-loop μ-loop
-loop-holds c = (c .pre, refl)
+loop-holds c = refl
 
 shared-slice-read-if1 : tie.Need-shared-slice-read-if1 Inv-loop μ-loop
 shared-slice-read-if1 c = omega arith
@@ -27,9 +27,9 @@ returns : tie.Need-returns Inv-loop μ-loop
 returns c =
     let l = c .before .before .before in
     let t = c .before .before .loop-test .taken in
-    let q = l .loop .inv .1 in
-    let e = length-line-feed (l .before .args .register .now) (l .loop .i) t (c .if1 .taken) in
-    (omega arith, omega arith)
+    let q = l .loop .inv in
+    let e = length-line-feed (l .before .args .bytes .now) (l .loop .i) t (c .if1 .taken) in
+    omega arith
 
 add-i : tie.Need-add-i Inv-loop μ-loop
 add-i c = omega arith
@@ -41,16 +41,16 @@ loop-again : tie.Need-loop-again Inv-loop μ-loop
 loop-again c =
     let l = c .before .before .before in
     let t = c .before .before .loop-test .taken in
-    let q = l .loop .inv .1 in
-    let e = length-line-more (l .before .args .register .now) (l .loop .i) t (c .if1 .left) in
-    (omega arith, omega arith)
+    let q = l .loop .inv in
+    let e = length-line-more (l .before .args .bytes .now) (l .loop .i) t (c .if1 .left) in
+    omega arith
 
 returns-2 : tie.Need-returns-2 Inv-loop μ-loop
 returns-2 c =
     let l = c .before in
-    let q = l .loop .inv .1 in
-    let e = length-line-end (l .before .args .register .now) (l .loop .i) (c .loop-test .left) in
-    (omega arith, l .loop .inv .0)
+    let q = l .loop .inv in
+    let e = length-line-end (l .before .args .bytes .now) (l .loop .i) (c .loop-test .left) in
+    omega arith
 
 pub line-end-spec : {M : Type 1} → statement M
 line-end-spec =

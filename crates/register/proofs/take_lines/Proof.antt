@@ -3,13 +3,14 @@ use mathlib.Core.Path.{_≡_, refl, sym, ap, ap₂, _∙_}
 use mathlib.Core.List.{List, map}
 use Prim.Native.Nat.{ℕ, _+_, _*_, _%_, _≤_, _<_, _-_}
 use native.Mathlib.Omega.{arith}
+use borrow.Author.Needs.{needs}
 use lib.ListN.{length, set, take, drop, length-drop}
 use lib.Seq.{length-take-le, paste}
 use Rattle.names.specs.Names.{judgeOf}
 use Rattle.names.specs.Features.{featuresOf}
 use Rattle.index.specs.Good.{mostNames, mostPostings}
 use Rattle.index.specs.Built.{tripleOf}
-use Rattle.register.proofs.Lines.{line-some}
+use Rattle.register.proofs.Lines.{line-some, line-ends}
 use Rattle.register.proofs.Judging.{good-line}
 use Rattle.register.proofs.Taking.{Reached, id-most, tables-room, reached-nil, reached-all, reached-good, reached-bad, reached-more}
 use Rattle.register.proofs.take_lines.Statement.{statement}
@@ -26,19 +27,21 @@ loop-holds : tie.Need-loop-holds Inv-loop μ-loop
 loop-holds c = let b = c .before .before .before .before in (b .pre .0, b .pre .1, b .pre .2, reached-nil (b .args .register .now) (b .args .names .now) (b .args .triples .now))
 
 line-end-requires : tie.Need-line-end-requires Inv-loop μ-loop
-line-end-requires c κs = c .before .loop .inv .3 .within
+line-end-requires c κs = search needs
 
 sub-judge-line : tie.Need-sub-judge-line Inv-loop μ-loop
-sub-judge-line c = let e = c .line-end .ensures .0 in omega arith
+sub-judge-line c = let e = c .line-end .ensures in omega arith
 
 part-judge-line-start : tie.Need-part-judge-line-start Inv-loop μ-loop
 part-judge-line-start c =
-    let e = c .line-end .ensures .0 in
+    let e = c .line-end .ensures in
     let f : c .before .before .loop .at ≤ c .line-end .result = omega arith in
     f
 
 part-judge-line-end : tie.Need-part-judge-line-end Inv-loop μ-loop
-part-judge-line-end c = c .line-end .ensures .1
+part-judge-line-end c =
+    let l = c .before .before .loop in
+    line-ends (c .before .before .before .before .before .before .before .args .register .now) (l .at) (c .line-end .result) (c .line-end .ensures) (l .inv .3 .within) .1
 
 judge-line-requires : tie.Need-judge-line-requires Inv-loop μ-loop
 judge-line-requires c κs = c .before .before .before .before .loop .inv .0
@@ -50,7 +53,7 @@ cast-t20 c =
     let s = b .args .register .now in
     let y = c .before .before .before .before .judge-line in
     let h = y .ensures in
-    let v = c .before .before .before .before .before .before .before .line-end .ensures in
+    let v = line-ends s (l .at) (c .before .before .before .before .before .before .before .line-end .result) (c .before .before .before .before .before .before .before .line-end .ensures) (l .inv .3 .within) in
     let end = c .before .before .before .before .before .before .before .line-end .result in
     let more = c .before .before .before .before .before .before .before .before .loop-test .taken in
     let reach = l .inv .3 in
@@ -65,7 +68,7 @@ add-t21 c =
     let s = b .args .register .now in
     let y = c .before .before .before .before .judge-line in
     let h = y .ensures in
-    let v = c .before .before .before .before .before .before .before .line-end .ensures in
+    let v = line-ends s (l .at) (c .before .before .before .before .before .before .before .line-end .result) (c .before .before .before .before .before .before .before .line-end .ensures) (l .inv .3 .within) in
     let end = c .before .before .before .before .before .before .before .line-end .result in
     let more = c .before .before .before .before .before .before .before .before .loop-test .taken in
     let reach = l .inv .3 in
@@ -89,7 +92,7 @@ returns c =
     let s = b .args .register .now in
     let y = c .before .before .before .before .judge-line in
     let h = y .ensures in
-    let v = c .before .before .before .before .before .before .before .line-end .ensures in
+    let v = line-ends s (l .at) (c .before .before .before .before .before .before .before .line-end .result) (c .before .before .before .before .before .before .before .line-end .ensures) (l .inv .3 .within) in
     let end = c .before .before .before .before .before .before .before .line-end .result in
     let more = c .before .before .before .before .before .before .before .before .loop-test .taken in
     let reach = l .inv .3 in
@@ -108,7 +111,7 @@ add-name-requires c κs =
     let s = b .args .register .now in
     let y = c .before .before .before .before .before .before .before .judge-line in
     let h = y .ensures in
-    let v = c .before .before .before .before .before .before .before .before .before .before .line-end .ensures in
+    let v = line-ends s (l .at) (c .before .before .before .before .before .before .before .before .before .before .line-end .result) (c .before .before .before .before .before .before .before .before .before .before .line-end .ensures) (l .inv .3 .within) in
     let end = c .before .before .before .before .before .before .before .before .before .before .line-end .result in
     let more = c .before .before .before .before .before .before .before .before .before .before .before .loop-test .taken in
     let reach = l .inv .3 in
@@ -130,7 +133,7 @@ add-n c =
     let s = b .args .register .now in
     let y = c .before .before .before .before .before .before .before .before .before .before .before .before .judge-line in
     let h = y .ensures in
-    let v = c .before .before .before .before .before .before .before .before .before .before .before .before .before .before .before .line-end .ensures in
+    let v = line-ends s (l .at) (c .before .before .before .before .before .before .before .before .before .before .before .before .before .before .before .line-end .result) (c .before .before .before .before .before .before .before .before .before .before .before .before .before .before .before .line-end .ensures) (l .inv .3 .within) in
     let end = c .before .before .before .before .before .before .before .before .before .before .before .before .before .before .before .line-end .result in
     let more = c .before .before .before .before .before .before .before .before .before .before .before .before .before .before .before .before .loop-test .taken in
     let reach = l .inv .3 in
@@ -150,7 +153,7 @@ add-next c =
     let s = b .args .register .now in
     let y = c .before .before .before .before .before .before .before .before .before .before .before .before .judge-line in
     let h = y .ensures in
-    let v = c .before .before .before .before .before .before .before .before .before .before .before .before .before .before .before .line-end .ensures in
+    let v = line-ends s (l .at) (c .before .before .before .before .before .before .before .before .before .before .before .before .before .before .before .line-end .result) (c .before .before .before .before .before .before .before .before .before .before .before .before .before .before .before .line-end .ensures) (l .inv .3 .within) in
     let end = c .before .before .before .before .before .before .before .before .before .before .before .before .before .before .before .line-end .result in
     let more = c .before .before .before .before .before .before .before .before .before .before .before .before .before .before .before .before .loop-test .taken in
     let reach = l .inv .3 in
@@ -170,7 +173,7 @@ loop-less c =
     let s = b .args .register .now in
     let y = c .before .before .before .before .before .before .before .before .before .before .before .before .judge-line in
     let h = y .ensures in
-    let v = c .before .before .before .before .before .before .before .before .before .before .before .before .before .before .before .line-end .ensures in
+    let v = line-ends s (l .at) (c .before .before .before .before .before .before .before .before .before .before .before .before .before .before .before .line-end .result) (c .before .before .before .before .before .before .before .before .before .before .before .before .before .before .before .line-end .ensures) (l .inv .3 .within) in
     let end = c .before .before .before .before .before .before .before .before .before .before .before .before .before .before .before .line-end .result in
     let more = c .before .before .before .before .before .before .before .before .before .before .before .before .before .before .before .before .loop-test .taken in
     let reach = l .inv .3 in
@@ -187,7 +190,7 @@ loop-again c =
     let s = b .args .register .now in
     let y = c .before .before .before .before .before .before .before .before .before .before .before .before .judge-line in
     let h = y .ensures in
-    let v = c .before .before .before .before .before .before .before .before .before .before .before .before .before .before .before .line-end .ensures in
+    let v = line-ends s (l .at) (c .before .before .before .before .before .before .before .before .before .before .before .before .before .before .before .line-end .result) (c .before .before .before .before .before .before .before .before .before .before .before .before .before .before .before .line-end .ensures) (l .inv .3 .within) in
     let end = c .before .before .before .before .before .before .before .before .before .before .before .before .before .before .before .line-end .result in
     let more = c .before .before .before .before .before .before .before .before .before .before .before .before .before .before .before .before .loop-test .taken in
     let reach = l .inv .3 in

@@ -1,0 +1,116 @@
+-- The register and the queries of an input: where the first line that begins with 51 starts.
+-- Assumes nothing.
+use mathlib.Core.Path.{_≡_, refl, sym, ap, ap₂, _∙_}
+use mathlib.Core.Bool.{Bool, true, false, cond, _&&_}
+use mathlib.Core.List.{List, [], _∷_}
+use Prim.Native.Nat.{ℕ, zero, suc, _+_, _-_, _≤_, _<_}
+use native.Mathlib.Nat.{add-zero}
+use native.Mathlib.Omega.{arith}
+use lib.ListN.{length, getD, take, drop, replicate, length-drop, drop-of-length-le, List·getD-eq-default}
+use lib.Seq.{length-take-le, drop-drop, getD-drop}
+use lib.Dec.{eqb}
+use borrow.Author.Tests.{eq-eqb, ne-eqb, eqb-true, lt-ltb, le-ltb}
+use Rattle.register.specs.Lines.{linesOf, lineLength, lineFeed}
+use Rattle.register.proofs.Lines.{lines-nil, lines-step, line-within}
+use Rattle.register.specs.Build.{blank, builtOf, wordsAfter}
+use Rattle.register.specs.declared.Built.{Built}
+use Rattle.answers.specs.declared.Opened.{Opened}
+use Rattle.answers.specs.Output.{begins, bytesBefore, registerEnd, mostInput, openedOf, openWords}
+
+-- bytes begin with 51 exactly if their first line does
+pub begins-line : (s : List ℕ) → begins (take (lineLength s) s) ≡ begins s
+unfolding begins lineLength
+begins-line [] = refl
+begins-line (a ∷ []) = by-feed (eqb a lineFeed)
+  where
+    by-feed : (t : Bool) → eqb (getD (take (1 + cond t 0 0) (a ∷ [])) 0 0) 53 && eqb (getD (take (1 + cond t 0 0) (a ∷ [])) 1 0) 49 ≡ eqb a 53 && eqb 0 49
+    by-feed true = refl
+    by-feed false = refl
+begins-line (a ∷ b ∷ s) = by-feed (eqb a lineFeed) refl
+  where
+    fives : eqb a lineFeed ≡ true → eqb a 53 ≡ false
+    fives e = ne-eqb a 53 (λ h. let g = eqb-true a lineFeed e in omega arith)
+
+    by-second : (t : Bool) → eqb (getD (take (1 + (1 + cond t 0 (lineLength s))) (a ∷ b ∷ s)) 0 0) 53 && eqb (getD (take (1 + (1 + cond t 0 (lineLength s))) (a ∷ b ∷ s)) 1 0) 49 ≡ eqb a 53 && eqb b 49
+    by-second true = refl
+    by-second false =
+        let q : 1 + (1 + lineLength s) ≡ suc (suc (lineLength s)) = omega arith in
+        rw q refl
+
+    by-feed : (t : Bool) → eqb a lineFeed ≡ t
+        → eqb (getD (take (1 + cond t 0 (1 + cond (eqb b lineFeed) 0 (lineLength s))) (a ∷ b ∷ s)) 0 0) 53
+        && eqb (getD (take (1 + cond t 0 (1 + cond (eqb b lineFeed) 0 (lineLength s))) (a ∷ b ∷ s)) 1 0) 49
+        ≡ eqb a 53 && eqb b 49
+    by-feed true e = rw (fives e) refl
+    by-feed false e = by-second (eqb b lineFeed)
+
+-- at a place of the input
+begins-at : (s : List ℕ) (at : ℕ) → begins (drop at s) ≡ eqb (getD s at 0) 53 && eqb (getD s (at + 1) 0) 49
+unfolding begins
+begins-at s at =
+    ap₂ (λ (x y : ℕ). eqb x 53 && eqb y 49) (getD-drop at s 0 0 ∙ ap (λ (k : ℕ). getD s k 0) (add-zero at)) (getD-drop at s 1 0)
+
+pub begins-short : (s : List ℕ) (at : ℕ) → length s - at < 2 → begins (drop at s) ≡ false
+begins-short s at h = begins-at s at ∙ ap (λ (y : ℕ). eqb (getD s at 0) 53 && eqb y 49) (List·getD-eq-default s 0 {n = at + 1} (omega arith)) ∙ no (eqb (getD s at 0) 53)
+  where
+    no : (t : Bool) → t && false ≡ false
+    no true = refl
+    no false = refl
+
+pub begins-other : (s : List ℕ) (at : ℕ) → (getD s at 0 ≡ 53 → ⊥) → begins (drop at s) ≡ false
+begins-other s at n = begins-at s at ∙ rw (ne-eqb (getD s at 0) 53 n)
+
+pub begins-second : (s : List ℕ) (at : ℕ) → getD s at 0 ≡ 53 → begins (drop at s) ≡ eqb (getD s (at + 1) 0) 49
+begins-second s at e = begins-at s at ∙ rw (eq-eqb (getD s at 0) 53 e)
+
+-- ---- the end of the register
+
+pub end-first : (s : List ℕ) → 0 + bytesBefore (linesOf (drop 0 s)) ≡ registerEnd s
+unfolding registerEnd
+end-first s = omega arith
+
+-- at the end of the input nothing is left
+pub end-nil : (s : List ℕ) (at : ℕ) → length s ≤ at → bytesBefore (linesOf (drop at s)) ≡ 0
+unfolding bytesBefore
+end-nil s at h = ap (λ (l : List ℕ). bytesBefore (linesOf l)) (drop-of-length-le s {i = at} h) ∙ ap bytesBefore lines-nil
+
+-- a line that begins with 51 ends the register
+pub end-met : (s : List ℕ) (at : ℕ) → at < length s → begins (drop at s) ≡ true → bytesBefore (linesOf (drop at s)) ≡ 0
+unfolding bytesBefore
+end-met s at h b =
+    let n = length-drop at s in
+    ap bytesBefore (lines-step (drop at s) (omega arith)) ∙ rw (begins-line (drop at s), b) refl
+
+-- any other belongs to it
+pub end-passed : (s : List ℕ) (at : ℕ) → at < length s → begins (drop at s) ≡ false
+    → bytesBefore (linesOf (drop at s)) ≡ lineLength (drop at s) + bytesBefore (linesOf (drop (at + lineLength (drop at s)) s))
+unfolding bytesBefore
+end-passed s at h b =
+    let n = length-drop at s in
+    let w = line-within s at (omega arith) in
+    let l : length (take (lineLength (drop at s)) (drop at s)) ≡ lineLength (drop at s) = length-take-le (lineLength (drop at s)) (drop at s) (omega arith) in
+    ap bytesBefore (lines-step (drop at s) (omega arith))
+    ∙ rw (begins-line (drop at s), b) (ap₂ _+_ l (ap (λ (r : List ℕ). bytesBefore (linesOf r)) (drop-drop (lineLength (drop at s)) at s)))
+
+-- ---- opening
+
+module _ (input words : List ℕ) where
+  pub opened-much : mostInput < length input → record { number = 8; line = 0; at = 0 } ≡ openedOf input (length words)
+  unfolding openedOf
+  opened-much h = rw (lt-ltb mostInput (length input) h)
+
+  pub words-much : mostInput < length input → replicate (length words) blank ≡ openWords input words
+  unfolding openWords
+  words-much h = rw (lt-ltb mostInput (length input) h)
+
+  pub opened-built : (at : ℕ) (b : Built) → length input ≤ mostInput → at ≡ registerEnd input → b ≡ builtOf (take at input) (length words)
+      → record { number = b .number; line = b .line; at = at } ≡ openedOf input (length words)
+  unfolding openedOf
+  opened-built at b h e f =
+      rw (le-ltb mostInput (length input) h)
+      (ap₂ (λ (k : ℕ) (c : Built). record { number = c .number; line = c .line; at = k }) e (f ∙ ap (λ (k : ℕ). builtOf (take k input) (length words)) e))
+
+  pub words-built : (at : ℕ) (after : List ℕ) → length input ≤ mostInput → at ≡ registerEnd input → after ≡ wordsAfter (take at input) words
+      → after ≡ openWords input words
+  unfolding openWords
+  words-built at after h e f = rw (le-ltb mostInput (length input) h) (f ∙ ap (λ (k : ℕ). wordsAfter (take k input) words) e)

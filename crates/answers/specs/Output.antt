@@ -1,0 +1,143 @@
+-- What the program makes of an input, byte by byte: the register and its index, the lines of each answer, and all of the output.
+-- Assumes nothing.
+use mathlib.Core.Bool.{Bool, cond, _&&_}
+use mathlib.Core.List.{List, [], _∷_, _++_}
+use Prim.Native.Nat.{ℕ, zero, suc, _+_}
+use lib.ListN.{length, getD, take, drop, replicate}
+use lib.Dec.{eqb, leb, ltb}
+use Rattle.names.specs.Features.{featuresOf}
+use Rattle.frames.specs.declared.Written.{Written}
+use Rattle.frames.specs.Layouts.{isFrame, fieldsIn, nameIn, lineOf}
+use Rattle.frames.specs.Frames.{queryFrame, rowFrame, endFrame, refusalFrame}
+use Rattle.register.specs.Lines.{linesOf}
+use Rattle.register.specs.Build.{blank, builtOf, wordsAfter}
+use Rattle.search.specs.Method.{answersOf}
+use Rattle.search.specs.Answers.{searchOf, givenBy, idColumn, sharedColumn, sizeColumn}
+use Rattle.search.specs.declared.Answer.{Answer}
+use Rattle.search.specs.declared.Answer.the-variants.{Found, Refused}
+use Rattle.answers.specs.declared.Opened.{Opened}
+
+-- ---- the register and the queries
+
+-- whether a line begins with the digits 5 and 1
+unfoldable pub begins : List ℕ → Bool
+begins l = eqb (getD l 0 0) 53 && eqb (getD l 1 0) 49
+
+-- how many bytes come before the first line that begins so; all where none does
+unfoldable pub bytesBefore : List (List ℕ) → ℕ
+bytesBefore [] = 0
+bytesBefore (l ∷ ls) = cond (begins l) 0 (length l + bytesBefore ls)
+
+unfoldable pub registerEnd : List ℕ → ℕ
+registerEnd input = bytesBefore (linesOf input)
+
+-- the bytes of the register's lines
+abbrev pub registerOf : List ℕ → List ℕ
+registerOf input = take (registerEnd input) input
+
+-- the lines of the queries
+abbrev pub queriesOf : List ℕ → List (List ℕ)
+queriesOf input = linesOf (drop (registerEnd input) input)
+
+-- ---- opening
+
+-- the most bytes that an input has
+abbrev pub mostInput : ℕ
+mostInput = 65536
+
+-- what opening answers: 8 for too much input, judged first, or the build's number and line; and where the queries begin
+unfoldable pub openedOf : List ℕ → ℕ → Opened
+openedOf input room =
+    cond (ltb mostInput (length input))
+    (record { number = 8; line = 0; at = 0 })
+    (record {
+      number = builtOf (registerOf input) room .number;
+      line = builtOf (registerOf input) room .line;
+      at = registerEnd input;
+    })
+
+-- the words after opening: the build's, or blanks alone for too much input
+unfoldable pub openWords : List ℕ → List ℕ → List ℕ
+openWords input words = cond (ltb mostInput (length input)) (replicate (length words) blank) (wordsAfter (registerOf input) words)
+
+-- ---- an answer
+
+abbrev pub rowLine : ℕ → ℕ → ℕ → List ℕ
+rowLine id shared size = lineOf rowFrame (id ∷ shared ∷ size ∷ []) []
+
+abbrev pub endLine : ℕ → ℕ → ℕ → ℕ → List ℕ
+endLine rows touches p q = lineOf endFrame (rows ∷ touches ∷ p ∷ q ∷ []) []
+
+abbrev pub refusalLine : ℕ → ℕ → List ℕ
+refusalLine number touches = lineOf refusalFrame (number ∷ touches ∷ []) []
+
+-- the lines of the first n rows of three columns
+unfoldable pub rowsText : List ℕ → List ℕ → List ℕ → ℕ → List ℕ
+rowsText ids shared sizes zero = []
+rowsText ids shared sizes (suc k) = rowsText ids shared sizes k ++ rowLine (getD ids k 0) (getD shared k 0) (getD sizes k 0)
+
+-- the lines of an answer with its rows in three columns
+unfoldable pub answerText : Answer → List ℕ → List ℕ → List ℕ → List ℕ
+answerText (Found rows touches p q) ids shared sizes = rowsText ids shared sizes rows ++ endLine rows touches p q
+answerText (Refused number touches) ids shared sizes = refusalLine number touches
+
+-- how many rows the program lends
+abbrev pub rowsLent : ℕ
+rowsLent = 256
+
+-- the query of a 51 line, and its fields
+abbrev pub queryIn : List ℕ → List ℕ
+queryIn line = nameIn queryFrame line
+
+abbrev pub measureIn : List ℕ → ℕ
+measureIn line = getD (fieldsIn queryFrame line) 0 0
+
+abbrev pub pIn : List ℕ → ℕ
+pIn line = getD (fieldsIn queryFrame line) 1 0
+
+abbrev pub qIn : List ℕ → ℕ
+qIn line = getD (fieldsIn queryFrame line) 2 0
+
+abbrev pub allowanceIn : List ℕ → ℕ
+allowanceIn line = getD (fieldsIn queryFrame line) 3 0
+
+-- the search that a 51 line asks for
+abbrev pub searchFor : List ℕ → List ℕ → Answer
+searchFor w line = searchOf (queryIn line) (measureIn line) (pIn line) (qIn line) (allowanceIn line) w rowsLent
+
+-- the places of the names that it gives
+abbrev pub placesFor : List ℕ → List ℕ → List ℕ
+placesFor w line = givenBy (searchFor w line) (answersOf w (measureIn line) (pIn line) (qIn line) (featuresOf (queryIn line)))
+
+-- the lines that a query line is answered with; a line that is no 51 frame is refused with 11 and 0 touches
+unfoldable pub answerOf : List ℕ → List ℕ → List ℕ
+answerOf w line =
+    cond (isFrame queryFrame line)
+    (answerText (searchFor w line) (idColumn w (placesFor w line)) (sharedColumn w (featuresOf (queryIn line)) (placesFor w line)) (sizeColumn w (placesFor w line)))
+    (refusalLine 11 0)
+
+-- ---- lines into a lent buffer: all of them or, where they do not fit, none and 8
+
+unfoldable pub fittingOf : List ℕ → ℕ → Written
+fittingOf text room = cond (leb (length text) room) (record { number = 0; len = length text }) (record { number = 8; len = 0 })
+
+unfoldable pub fittedOf : List ℕ → List ℕ → List ℕ
+fittedOf text out = cond (leb (length text) (length out)) (text ++ drop (length text) out) out
+
+-- ---- the whole program
+
+-- how many words its index has
+abbrev pub programWords : ℕ
+programWords = 16384
+
+-- the answers of all query lines, one behind the other
+unfoldable pub answersText : List ℕ → List (List ℕ) → List ℕ
+answersText w [] = []
+answersText w (l ∷ ls) = answerOf w l ++ answersText w ls
+
+-- its output: one refusal where opening is refused, and otherwise the answers
+unfoldable pub outputOf : List ℕ → List ℕ
+outputOf input =
+    cond (eqb (openedOf input programWords .number) 0)
+    (answersText (openWords input (replicate programWords 0)) (queriesOf input))
+    (refusalLine (openedOf input programWords .number) 0)

@@ -1,0 +1,295 @@
+-- The demands hold: specs/Demands.antt says what, this file cites why.
+-- Assumes nothing.
+use mathlib.Core.Path.{_≡_, refl, sym, ap, ap₂, subst, _∙_}
+use mathlib.Core.Logic.{_⊎_, ⊎-elim, _↔_}
+use mathlib.Core.Bool.{Bool, true, false, cond, not, _&&_, false≢true}
+use mathlib.Core.List.{List, [], _∷_, _++_, map}
+use Prim.Native.Nat.{ℕ, zero, suc, _+_, _-_, _*_, _≤_, _<_}
+use native.Mathlib.Omega.{arith}
+use lib.ListN.{length, getD, take, drop, length-map}
+use lib.Dec.{eqb, leb, ltb}
+use borrow.Author.Tests.{eq-eqb, ne-eqb, ltb-true, ltb-false, lt-ltb, le-ltb}
+use Rattle.laws.specs.Lists.{member, Ascending, countOf, sumOf}
+use Rattle.laws.specs.Filter.{filterOf}
+use Rattle.laws.proofs.Lists.{count-ext}
+use Rattle.laws.proofs.Members.{member-at}
+use Rattle.laws.proofs.Order.{eq-or-ne}
+use Rattle.names.specs.Names.{judgeOf}
+use Rattle.names.specs.Features.{featuresOf}
+use Rattle.names.specs.Shared.{sharedOf}
+use Rattle.names.proofs.Laws.{size-within, size-most}
+use Rattle.likeness.specs.Measures.{goodMeasure, goodThreshold, isSimilar, measureOf}
+use Rattle.likeness.specs.Sizes.{isSearched}
+use Rattle.likeness.specs.Least.{leastCount}
+use Rattle.likeness.specs.Terms.{lowestTerms}
+use Rattle.likeness.proofs.Measures.{measure-range, similar-fraction, facts-threshold}
+use Rattle.likeness.proofs.Least.{least-pos, least-within}
+use Rattle.index.specs.Words.{nameCount, nameId, nameSize}
+use Rattle.index.specs.Good.{goodOf, Good}
+use Rattle.index.specs.Lists.{listIn, featuresIn}
+use Rattle.index.proofs.Laws.{features-member}
+use Rattle.search.specs.Method.{namesOf, sharedWith, listsFor, heldBy, listed, touchesAt, touchesOfSize, touchesOf, answersOf}
+use Rattle.search.specs.Answers.{numberIn, rowsIn, touchesIn, thresholdP, thresholdQ, questionOf, refusalOf, searchGoodOf, searchOf, givenBy, idColumn, sharedColumn, sizeColumn, over, roomOf}
+use Rattle.search.specs.declared.Answer.{Answer}
+use Rattle.search.specs.declared.Answer.the-variants.{Found, Refused}
+use Rattle.search.proofs.Laws.{length-lists, held-features, listed-similar, Query}
+use Rattle.search.proofs.Whole.{query-features}
+use Rattle.search.proofs.Answered.{good-past, good-full, good-found, search-runs}
+use Rattle.search.proofs.Found.{refused-empty, refused-gives, given-found, Asked, asked, Answered, answered}
+use Rattle.search.proofs.Listed.{over-taken, over-beyond, over-at, answer-place, answer-ids, answer-listed}
+use Rattle.search.proofs.Work.{touches-candidates, candidates-names, touches-all, touches-most, signatures-least}
+use Rattle.statements.specs.Demands.{Question, Bytes, room, answer, number, steps, found, idsAfter, sharedAfter, sizesAfter, Case, firstCase, case, refusals, touchesWith, Demand1, sharedBy, Reaches, rowIds, Demand2, withAllowance, leastAt, listsAt, postingsAt, candidatesAt, Demand3}
+
+-- ---- demand 1
+
+-- an answer by its tests alone: the query's three, the measure's, the threshold's, the index's, the allowance's and the room's
+module _ (allowance all rows p q : ℕ) where
+  judgedBy : Bool → Bool → Bool → ℕ
+  judgedBy e l z = cond e 1 (cond l 2 (cond z 3 0))
+
+  questionBy : ℕ → Bool → Bool → ℕ
+  questionBy j m t = cond (eqb j 0) (cond m (cond t 0 5) 4) j
+
+  refusalBy : ℕ → Bool → ℕ
+  refusalBy n g = cond (eqb n 0) (cond g 0 6) n
+
+  answerBy : ℕ → Bool → Bool → Answer
+  answerBy r s f = cond (eqb r 0) (cond s (Refused 7 allowance) (cond f (Refused 8 all) (Found rows all p q))) (Refused r 0)
+
+  wholeBy : Bool → Bool → Bool → Bool → Bool → Bool → Bool → Bool → Answer
+  wholeBy e l z m t g s f = answerBy (refusalBy (questionBy (judgedBy e l z) m t) g) s f
+
+  touchesBy : ℕ → ℕ
+  touchesBy n = cond (eqb n 0) all (cond (ltb n 7) 0 (cond (eqb n 7) allowance all))
+
+  tableBy : Bool → Bool → Bool → Bool → Bool → Bool → Bool → Bool → Bool → Bool → Bool → List Case
+  tableBy e l z m m′ t t′ t″ g s f =
+      case 1 e
+      ∷ case 2 l
+      ∷ case 3 z
+      ∷ case 4 (not m)
+      ∷ case 4 (not m′)
+      ∷ case 5 (not t)
+      ∷ case 5 (not t′)
+      ∷ case 5 (not t″)
+      ∷ case 6 (not g)
+      ∷ case 7 s
+      ∷ case 8 f
+      ∷ []
+
+  judged-by : (e l z m m′ t t′ t″ g s f : Bool)
+      → numberIn (wholeBy e l z (m && m′) (t && (t′ && t″)) g s f) ≡ firstCase (tableBy e l z m m′ t t′ t″ g s f)
+  unfolding firstCase judgedBy questionBy refusalBy answerBy wholeBy tableBy
+  judged-by true l z m m′ t t′ t″ g s f = refl
+  judged-by false true z m m′ t t′ t″ g s f = refl
+  judged-by false false true m m′ t t′ t″ g s f = refl
+  judged-by false false false false m′ t t′ t″ g s f = refl
+  judged-by false false false true false t t′ t″ g s f = refl
+  judged-by false false false true true false t′ t″ g s f = refl
+  judged-by false false false true true true false t″ g s f = refl
+  judged-by false false false true true true true false g s f = refl
+  judged-by false false false true true true true true false s f = refl
+  judged-by false false false true true true true true true true f = refl
+  judged-by false false false true true true true true true false true = refl
+  judged-by false false false true true true true true true false false = refl
+
+  touched-by : (e l z m t g s f : Bool) → touchesIn (wholeBy e l z m t g s f) ≡ touchesBy (numberIn (wholeBy e l z m t g s f))
+  unfolding judgedBy questionBy refusalBy answerBy wholeBy touchesBy
+  touched-by true l z m t g s f = refl
+  touched-by false true z m t g s f = refl
+  touched-by false false true m t g s f = refl
+  touched-by false false false false t g s f = refl
+  touched-by false false false true false g s f = refl
+  touched-by false false false true true false s f = refl
+  touched-by false false false true true true true f = refl
+  touched-by false false false true true true false true = refl
+  touched-by false false false true true true false false = refl
+
+-- the number is the first of the table
+judged-first : (a : Question) → number a ≡ firstCase (refusals a)
+unfolding searchOf refusalOf questionOf judgeOf goodThreshold searchGoodOf judgedBy questionBy refusalBy answerBy wholeBy tableBy
+judged-first a =
+    ap (λ (m : Bool). numberIn (wholeBy (a .allowance) (steps a) (length (found a)) (lowestTerms (a .p) (a .q) .p) (lowestTerms (a .p) (a .q) .q) (eqb (length (a .query)) 0) (ltb 64 (length (a .query))) (member 0 (a .query)) m (goodThreshold (a .p) (a .q)) (goodOf (a .words)) (ltb (a .allowance) (steps a)) (ltb (room a) (length (found a)))))
+    (measure-range (a .measure))
+    ∙ judged-by (a .allowance) (steps a) (length (found a)) (lowestTerms (a .p) (a .q) .p) (lowestTerms (a .p) (a .q) .q) (eqb (length (a .query)) 0) (ltb 64 (length (a .query))) (member 0 (a .query)) (leb 1 (a .measure)) (leb (a .measure) 4) (leb 1 (a .p)) (leb (a .p) (a .q)) (leb (a .q) 1000) (goodOf (a .words)) (ltb (a .allowance) (steps a)) (ltb (room a) (length (found a)))
+
+touched-with : (a : Question) → touchesIn (answer a) ≡ touchesWith a (number a)
+unfolding searchOf refusalOf questionOf judgeOf searchGoodOf judgedBy questionBy refusalBy answerBy wholeBy touchesBy
+touched-with a =
+    touched-by (a .allowance) (steps a) (length (found a)) (lowestTerms (a .p) (a .q) .p) (lowestTerms (a .p) (a .q) .q) (eqb (length (a .query)) 0) (ltb 64 (length (a .query))) (member 0 (a .query)) (goodMeasure (a .measure)) (goodThreshold (a .p) (a .q)) (goodOf (a .words)) (ltb (a .allowance) (steps a)) (ltb (room a) (length (found a)))
+
+pub demand-1 : (a : Question) → Demand1 a
+demand-1 a =
+    record {
+      judged = judged-first a;
+      touched = touched-with a;
+      nothing = refused-empty (answer a);
+      kept = λ n.
+          let g = refused-gives (answer a) (found a) n in (
+            ap (λ (l : List ℕ). over (idColumn (a .words) l) (a .ids)) g,
+            ap (λ (l : List ℕ). over (sharedColumn (a .words) (featuresOf (a .query)) l) (a .shared)) g,
+            ap (λ (l : List ℕ). over (sizeColumn (a .words) l) (a .sizes)) g,
+          );
+    }
+
+-- ---- demand 2
+
+-- a question by its parts
+abbrev AskedBy : Question → Type 0
+AskedBy a = Asked (a .query) (a .measure) (a .p) (a .q) (a .words)
+
+abbrev AnsweredBy : Question → Type 0
+AnsweredBy a = Answered (a .query) (a .measure) (a .p) (a .q) (a .allowance) (a .words) (room a)
+
+answered-by : (a : Question) → number a ≡ 0 → AnsweredBy a
+answered-by a n = answered (a .query) (a .measure) (a .p) (a .q) (a .allowance) (a .words) (room a) n
+
+-- a name shares the features that it stands for
+pub shared-by : (a : Question) → AskedBy a → Bytes (a .query) → (i : ℕ) → i < nameCount (a .words)
+    → sharedWith (a .words) (featuresOf (a .query)) i ≡ sharedBy a i
+unfolding sharedWith sharedOf
+shared-by a k b i h =
+    held-features (a .words) (nameSize (a .words) i) (featuresOf (a .query)) (nameId (a .words) i) (query-features (a .query) (k .judged) b .small)
+    ∙ count-ext (λ (f : ℕ). member (nameId (a .words) i) (listIn (a .words) (nameSize (a .words) i) f)) (λ (f : ℕ). member f (featuresIn (a .words) (nameId (a .words) i)))
+    (λ f. sym (features-member (a .words) (k .good) i h f)) (featuresOf (a .query))
+
+pub demand-2 : (a : Question) → Bytes (a .query) → number a ≡ 0 → Demand2 a
+demand-2 a b n =
+    record {
+      exactly = exactly;
+      true-rows = true-rows;
+      ascending = subst Ascending (sym ids) (answer-ids (a .words) (a .measure) (a .p) (a .q) (featuresOf (a .query)) (k .asked .good));
+      fits = (let e = rows in let h = k .fits in omega arith);
+      beyond = (beyond (nameId (a .words)) (a .ids), beyond (sharedWith (a .words) (featuresOf (a .query))) (a .shared), beyond (nameSize (a .words)) (a .sizes));
+      lowest = (ap thresholdP (k .form), ap thresholdQ (k .form));
+    }
+  where
+    k : AnsweredBy a
+    k = answered-by a n
+
+    rows : rowsIn (answer a) ≡ length (found a)
+    rows = ap rowsIn (k .form)
+
+    given : givenBy (answer a) (found a) ≡ found a
+    given = given-found (answer a) (length (found a)) (steps a) (lowestTerms (a .p) (a .q) .p) (lowestTerms (a .p) (a .q) .q) (found a) (k .form)
+
+    -- a column afterwards
+    column : (f : ℕ → ℕ) (s : List ℕ) → over (map f (givenBy (answer a) (found a))) s ≡ over (map f (found a)) s
+    column f s = ap (λ (l : List ℕ). over (map f l) s) given
+
+    long : (f : ℕ → ℕ) → rowsIn (answer a) ≡ length (map f (found a))
+    long f = rows ∙ sym (length-map (found a) f)
+
+    taken : (f : ℕ → ℕ) (s : List ℕ) → take (rowsIn (answer a)) (over (map f (givenBy (answer a) (found a))) s) ≡ map f (found a)
+    taken f s = ap₂ (λ (m : ℕ) (l : List ℕ). take m l) (long f) (column f s) ∙ over-taken (map f (found a)) s
+
+    beyond : (f : ℕ → ℕ) (s : List ℕ) → drop (rowsIn (answer a)) (over (map f (givenBy (answer a) (found a))) s) ≡ drop (rowsIn (answer a)) s
+    beyond f s = ap₂ (λ (m : ℕ) (l : List ℕ). drop m l) (long f) (column f s) ∙ over-beyond (map f (found a)) s ∙ ap (λ (m : ℕ). drop m s) (sym (long f))
+
+    ids : rowIds a ≡ map (nameId (a .words)) (found a)
+    ids = taken (nameId (a .words)) (a .ids)
+
+    exactly : (i : ℕ) → i < nameCount (a .words)
+        → (member (nameId (a .words) i) (rowIds a) ≡ true) ↔ Reaches a (length (featuresOf (a .query))) (nameSize (a .words) i) (sharedBy a i)
+    exactly i h =
+        let s = shared-by a (k .asked) b i h in
+        let same : member (nameId (a .words) i) (rowIds a) ≡ isSimilar (a .measure) (a .p) (a .q) (length (featuresOf (a .query))) (nameSize (a .words) i) (sharedBy a i) =
+        ap (member (nameId (a .words) i)) ids
+        ∙ answer-listed (a .words) (a .measure) (a .p) (a .q) (featuresOf (a .query)) (k .asked .good) i h
+        ∙ listed-similar (a .words) (k .asked .good) (a .measure) (a .p) (a .q) (k .asked .known) (k .asked .exact) (featuresOf (a .query)) (query-features (a .query) (k .asked .judged) b) i h
+        ∙ ap (isSimilar (a .measure) (a .p) (a .q) (length (featuresOf (a .query))) (nameSize (a .words) i)) s
+        in
+        let f = similar-fraction (a .measure) (a .p) (a .q) (length (featuresOf (a .query))) (nameSize (a .words) i) (sharedBy a i) (k .asked .exact) in
+        (λ m. f .0 (sym same ∙ m), λ r. same ∙ f .1 r)
+
+    true-rows : (j : ℕ) → j < rowsIn (answer a)
+        → (i : ℕ)
+        × (i < nameCount (a .words))
+        × (getD (idsAfter a) j 0 ≡ nameId (a .words) i)
+        × (getD (sharedAfter a) j 0 ≡ sharedBy a i)
+        × (getD (sizesAfter a) j 0 ≡ nameSize (a .words) i)
+    true-rows j l =
+        let e = rows in
+        let h : j < length (found a) = omega arith in
+        let i = getD (found a) j 0 in
+        let there = answer-place (a .words) (a .measure) (a .p) (a .q) (featuresOf (a .query)) i (member-at (found a) j h) .0 in
+        let at : (f : ℕ → ℕ) (s : List ℕ) → getD (over (map f (givenBy (answer a) (found a))) s) j 0 ≡ f i = λ f s. ap (λ (c : List ℕ). getD c j 0) (column f s) ∙ over-at f (found a) s j h in (
+          i,
+          there,
+          at (nameId (a .words)) (a .ids),
+          at (sharedWith (a .words) (featuresOf (a .query))) (a .shared) ∙ shared-by a (k .asked) b i there,
+          at (nameSize (a .words)) (a .sizes),
+        )
+
+-- ---- demand 3
+
+module _ (a : Question) (b : Bytes (a .query)) (z : refusalOf (a .query) (a .measure) (a .p) (a .q) (a .words) ≡ 0) where
+  asked-by : AskedBy a
+  asked-by = asked (a .query) (a .measure) (a .p) (a .q) (a .words) z
+
+  runs : (n : ℕ) → answer (withAllowance n a) ≡ searchGoodOf (a .query) (a .measure) (a .p) (a .q) n (a .words) (room a)
+  runs n = search-runs (a .query) (a .measure) (a .p) (a .q) n (a .words) (room a) z
+
+  past : a .allowance < steps a → number a ≡ 7
+  past h =
+      ap numberIn (runs (a .allowance) ∙ good-past (a .query) (a .measure) (a .p) (a .q) (a .allowance) (a .words) (room a) (lt-ltb (a .allowance) (steps a) h))
+
+  within : number a ≡ 7 → a .allowance < steps a
+  within e = by-tests (ltb (a .allowance) (steps a)) refl (ltb (room a) (length (found a))) refl
+    where
+      by-tests : (s : Bool) → ltb (a .allowance) (steps a) ≡ s → (f : Bool) → ltb (room a) (length (found a)) ≡ f → a .allowance < steps a
+      by-tests true s f r = ltb-true (a .allowance) (steps a) s
+      by-tests false s true r =
+          let c = ap numberIn (runs (a .allowance) ∙ good-full (a .query) (a .measure) (a .p) (a .q) (a .allowance) (a .words) (room a) s r) in absurd (omega arith)
+      by-tests false s false r =
+          let c = ap numberIn (runs (a .allowance) ∙ good-found (a .query) (a .measure) (a .p) (a .q) (a .allowance) (a .words) (room a) s r) in absurd (omega arith)
+
+  more : (n : ℕ) → a .allowance ≤ n → number a ≡ 0 → answer (withAllowance n a) ≡ answer a
+  more n h e =
+      let k = answered-by a e in
+      let enough = k .enough in
+      let fits = k .fits in
+      runs n
+      ∙ good-found (a .query) (a .measure) (a .p) (a .q) n (a .words) (room a) (le-ltb n (steps a) (omega arith)) (le-ltb (room a) (length (found a)) (omega arith))
+      ∙ sym (k .form)
+
+  asks : Query (featuresOf (a .query))
+  asks = query-features (a .query) (asked-by .judged) b
+
+  a-size : (y : ℕ) → 0 < y → isSearched (a .measure) (a .p) (a .q) (length (featuresOf (a .query))) y ≡ true
+      → (touchesOfSize (a .words) (a .measure) (a .p) (a .q) (featuresOf (a .query)) y ≤ postingsAt a y + candidatesAt a y * (leastAt a y - 1))
+      × (postingsAt a y + candidatesAt a y * (leastAt a y - 1) ≤ length (featuresOf (a .query)) * namesOf (a .words) y)
+  unfolding touchesOfSize
+  a-size y h e =
+      let k = asked-by in
+      let some = asks .some in
+      let low = least-pos (a .measure) (a .p) (a .q) (length (featuresOf (a .query))) y (k .known) (k .exact) in
+      let high = least-within (a .measure) (a .p) (a .q) (length (featuresOf (a .query))) y (omega arith) h e in
+      let n = length-lists (a .words) y (featuresOf (a .query)) in (
+        rw e (touches-candidates (a .words) y (listsAt a y) (leastAt a y) low (omega arith)),
+        candidates-names (a .words) (k .good) y (featuresOf (a .query)) (leastAt a y) low (omega arith),
+      )
+
+  no-size : (y : ℕ) → isSearched (a .measure) (a .p) (a .q) (length (featuresOf (a .query))) y ≡ false
+      → touchesOfSize (a .words) (a .measure) (a .p) (a .q) (featuresOf (a .query)) y ≡ 0
+  unfolding touchesOfSize
+  no-size y e = rw e
+
+  pub demand-3 : Demand3 a
+  demand-3 =
+      record {
+        seven = (within, past);
+        counted = λ e. ap touchesIn (answered-by a e .form);
+        larger = λ n h e.
+            let s = more n h e in (
+              s,
+              ap (λ (r : Answer). over (idColumn (a .words) (givenBy r (found a))) (a .ids)) s,
+              ap (λ (r : Answer). over (sharedColumn (a .words) (featuresOf (a .query)) (givenBy r (found a))) (a .shared)) s,
+              ap (λ (r : Answer). over (sizeColumn (a .words) (givenBy r (found a))) (a .sizes)) s,
+            );
+        a-size = a-size;
+        no-size = no-size;
+        in-all = touches-all (a .words) (asked-by .good) (a .measure) (a .p) (a .q) (asked-by .known) (asked-by .exact) (featuresOf (a .query)) asks;
+        most = touches-most (a .words) (asked-by .good) (a .measure) (a .p) (a .q) (asked-by .known) (asked-by .exact) (featuresOf (a .query)) asks (size-most (a .query));
+        smallest = λ y chosen n. signatures-least (a .words) y (featuresOf (a .query)) (leastAt a y) (asks .small) chosen n;
+      }

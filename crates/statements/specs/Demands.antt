@@ -1,0 +1,243 @@
+-- The demands on a search, in full: what a reader has to believe, and nothing of how it is shown. Shown in proofs/Demands.antt.
+-- The function `search` answers `answer` and leaves `idsAfter`, `sharedAfter` and `sizesAfter`, for every input, by its contract.
+-- A list of bytes is a list of numbers below 256; every lent slice of bytes is one.
+-- Assumes nothing.
+use mathlib.Core.Path.{_≡_}
+use mathlib.Core.Logic.{_↔_}
+use mathlib.Core.Bool.{Bool, true, false, cond, not}
+use mathlib.Core.List.{List, [], _∷_, map}
+use Prim.Native.Nat.{ℕ, _+_, _-_, _*_, _≤_, _<_}
+use lib.ListN.{length, getD, take, drop}
+use lib.Dec.{eqb, leb, ltb}
+use Rattle.laws.specs.Lists.{member, Ascending, countOf, sumOf}
+use Rattle.laws.specs.Filter.{filterOf}
+use Rattle.names.specs.Features.{characters, featuresOf}
+use Rattle.names.specs.Shared.{sharedOf}
+use Rattle.likeness.specs.Measures.{measureOf}
+use Rattle.likeness.specs.Sizes.{isSearched}
+use Rattle.likeness.specs.Least.{leastCount}
+use Rattle.likeness.specs.Fractions.{FractionLe, numerator, denominator, raised}
+use Rattle.likeness.specs.Terms.{lowestTerms}
+use Rattle.index.specs.Words.{nameCount, nameId, nameSize}
+use Rattle.index.specs.Good.{goodOf}
+use Rattle.index.specs.Lists.{listIn, featuresIn}
+use Rattle.search.specs.Method.{namesOf, listsFor, signatures, signaturePostings, remaining, touchesOfSize, touchesOf, answersOf}
+use Rattle.search.specs.Answers.{numberIn, rowsIn, touchesIn, thresholdP, thresholdQ, searchOf, givenBy, roomOf, over, idColumn, sharedColumn, sizeColumn}
+use Rattle.search.specs.declared.Answer.{Answer}
+
+-- ---- a search
+
+-- everything that a search is given
+pub record Question : Type 0 where
+  pub query : List ℕ
+  pub measure : ℕ
+  pub p : ℕ
+  pub q : ℕ
+  pub allowance : ℕ
+  pub words : List ℕ
+  pub ids : List ℕ
+  pub shared : List ℕ
+  pub sizes : List ℕ
+
+-- the query is bytes
+abbrev pub Bytes : List ℕ → Type 0
+Bytes s = (j : ℕ) → getD s j 0 < characters
+
+-- the room for rows: the least of the three lent lengths
+abbrev pub room : Question → ℕ
+room a = roomOf (a .ids) (a .shared) (a .sizes)
+
+-- the answer
+abbrev pub answer : Question → Answer
+answer a = searchOf (a .query) (a .measure) (a .p) (a .q) (a .allowance) (a .words) (room a)
+
+-- its number; 0 where it is answered
+abbrev pub number : Question → ℕ
+number a = numberIn (answer a)
+
+-- the steps of the method on these words, counted
+abbrev pub steps : Question → ℕ
+steps a = touchesOf (a .words) (a .measure) (a .p) (a .q) (featuresOf (a .query))
+
+-- the places among the names of those that the method lists
+abbrev pub found : Question → List ℕ
+found a = answersOf (a .words) (a .measure) (a .p) (a .q) (featuresOf (a .query))
+
+-- the three lent columns afterwards
+abbrev pub idsAfter : Question → List ℕ
+idsAfter a = over (idColumn (a .words) (givenBy (answer a) (found a))) (a .ids)
+
+abbrev pub sharedAfter : Question → List ℕ
+sharedAfter a = over (sharedColumn (a .words) (featuresOf (a .query)) (givenBy (answer a) (found a))) (a .shared)
+
+abbrev pub sizesAfter : Question → List ℕ
+sizesAfter a = over (sizeColumn (a .words) (givenBy (answer a) (found a))) (a .sizes)
+
+-- ---- demand 1: a list or a numbered refusal
+
+-- a case of the table: when it applies, and its number
+pub record Case : Type 0 where
+  pub applies : Bool
+  pub number : ℕ
+
+-- the number of the first case that applies; 0 where none does
+unfoldable pub firstCase : List Case → ℕ
+firstCase [] = 0
+firstCase (c ∷ cs) = cond (c .applies) (c .number) (firstCase cs)
+
+abbrev pub case : ℕ → Bool → Case
+case n b = record { applies = b; number = n }
+
+-- the refusals, in the order in which they are judged
+abbrev pub refusals : Question → List Case
+refusals a =
+    case 1 (eqb (length (a .query)) 0)
+    ∷ case 2 (ltb 64 (length (a .query)))
+    ∷ case 3 (member 0 (a .query))
+    ∷ case 4 (not (leb 1 (a .measure)))
+    ∷ case 4 (not (leb (a .measure) 4))
+    ∷ case 5 (not (leb 1 (a .p)))
+    ∷ case 5 (not (leb (a .p) (a .q)))
+    ∷ case 5 (not (leb (a .q) 1000))
+    ∷ case 6 (not (goodOf (a .words)))
+    ∷ case 7 (ltb (a .allowance) (steps a))
+    ∷ case 8 (ltb (room a) (length (found a)))
+    ∷ []
+
+-- the touches that go with a number
+abbrev pub touchesWith : Question → ℕ → ℕ
+touchesWith a n = cond (eqb n 0) (steps a) (cond (ltb n 7) 0 (cond (eqb n 7) (a .allowance) (steps a)))
+
+pub record Demand1 (a : Question) : Type 0 where
+  -- every question has its number, and it is the first that the table has for it
+  pub judged : number a ≡ firstCase (refusals a)
+  -- before 7 no touches are reported, with 7 the allowance, with 8 and with an answer all of them
+  pub touched : touchesIn (answer a) ≡ touchesWith a (number a)
+  -- a refusal reports no rows, and the threshold as 0/0
+  pub nothing : (number a ≡ 0 → ⊥) → (rowsIn (answer a) ≡ 0) × (thresholdP (answer a) ≡ 0) × (thresholdQ (answer a) ≡ 0)
+  -- and writes none: every lent entry is what it was
+  pub kept : (number a ≡ 0 → ⊥) → (idsAfter a ≡ a .ids) × (sharedAfter a ≡ a .shared) × (sizesAfter a ≡ a .sizes)
+
+-- ---- demand 2: listed exactly if similar
+
+-- how many of the query's features the name at place i stands for
+abbrev pub sharedBy : Question → ℕ → ℕ
+sharedBy a i = sharedOf (featuresOf (a .query)) (featuresIn (a .words) (nameId (a .words) i))
+
+-- the similarity of sizes x and y with c shared features reaches the threshold, as exact fractions; the cosine by squares
+abbrev pub Reaches : Question → ℕ → ℕ → ℕ → Type 0
+Reaches a x y c =
+    FractionLe
+    (raised (measureOf (a .measure)) (a .p))
+    (raised (measureOf (a .measure)) (a .q))
+    (numerator (measureOf (a .measure)) c)
+    (denominator (measureOf (a .measure)) x y c)
+
+-- the ids of the rows
+abbrev pub rowIds : Question → List ℕ
+rowIds a = take (rowsIn (answer a)) (idsAfter a)
+
+pub record Demand2 (a : Question) : Type 0 where
+  -- a name of the index is listed exactly if its similarity reaches the threshold
+  pub exactly : (i : ℕ) → i < nameCount (a .words)
+      → (member (nameId (a .words) i) (rowIds a) ≡ true)
+      ↔ Reaches a (length (featuresOf (a .query))) (nameSize (a .words) i) (sharedBy a i)
+  -- each row is a name's, with its true shared count and size
+  pub true-rows : (j : ℕ) → j < rowsIn (answer a)
+      → (i : ℕ)
+      × (i < nameCount (a .words))
+      × (getD (idsAfter a) j 0 ≡ nameId (a .words) i)
+      × (getD (sharedAfter a) j 0 ≡ sharedBy a i)
+      × (getD (sizesAfter a) j 0 ≡ nameSize (a .words) i)
+  -- by ascending id, and so once each
+  pub ascending : Ascending (rowIds a)
+  -- within the room
+  pub fits : rowsIn (answer a) ≤ room a
+  -- what is lent beyond the rows is as it was
+  pub beyond : (drop (rowsIn (answer a)) (idsAfter a) ≡ drop (rowsIn (answer a)) (a .ids))
+      × (drop (rowsIn (answer a)) (sharedAfter a) ≡ drop (rowsIn (answer a)) (a .shared))
+      × (drop (rowsIn (answer a)) (sizesAfter a) ≡ drop (rowsIn (answer a)) (a .sizes))
+  -- the threshold is reported in lowest terms
+  pub lowest : (thresholdP (answer a) ≡ lowestTerms (a .p) (a .q) .p) × (thresholdQ (answer a) ≡ lowestTerms (a .p) (a .q) .q)
+
+-- ---- demand 3: the work
+
+-- the same question with another allowance
+abbrev pub withAllowance : ℕ → Question → Question
+withAllowance n a =
+    record {
+      query = a .query;
+      measure = a .measure;
+      p = a .p;
+      q = a .q;
+      allowance = n;
+      words = a .words;
+      ids = a .ids;
+      shared = a .shared;
+      sizes = a .sizes;
+    }
+
+-- the least count at size y, the lists of the query's features there in their order, the signature postings S and the candidates C
+abbrev pub leastAt : Question → ℕ → ℕ
+leastAt a y = leastCount (a .measure) (a .p) (a .q) (length (featuresOf (a .query))) y
+
+abbrev pub listsAt : Question → ℕ → List (List ℕ)
+listsAt a y = listsFor (a .words) y (featuresOf (a .query))
+
+abbrev pub postingsAt : Question → ℕ → ℕ
+postingsAt a y = signaturePostings (listsAt a y) (leastAt a y)
+
+abbrev pub candidatesAt : Question → ℕ → ℕ
+candidatesAt a y = remaining (a .words) y (listsAt a y) (leastAt a y) 0
+
+-- of a question that is not refused before 7
+pub record Demand3 (a : Question) : Type 0 where
+  -- 7 comes exactly when the allowance is below the count of the method's steps
+  pub seven : (number a ≡ 7) ↔ (a .allowance < steps a)
+  -- an answer reports that count
+  pub counted : number a ≡ 0 → touchesIn (answer a) ≡ steps a
+  -- a larger allowance never alters an answer or a list
+  pub larger : (n : ℕ) → a .allowance ≤ n → number a ≡ 0
+      → (answer (withAllowance n a) ≡ answer a)
+      × (idsAfter (withAllowance n a) ≡ idsAfter a)
+      × (sharedAfter (withAllowance n a) ≡ sharedAfter a)
+      × (sizesAfter (withAllowance n a) ≡ sizesAfter a)
+  -- a searched size costs at most S + C·(t − 1), which is at most x times the names of that size; any other costs nothing
+  pub a-size : (y : ℕ) → 0 < y → isSearched (a .measure) (a .p) (a .q) (length (featuresOf (a .query))) y ≡ true
+      → (touchesOfSize (a .words) (a .measure) (a .p) (a .q) (featuresOf (a .query)) y
+      ≤ postingsAt a y + candidatesAt a y * (leastAt a y - 1))
+      × (postingsAt a y + candidatesAt a y * (leastAt a y - 1) ≤ length (featuresOf (a .query)) * namesOf (a .words) y)
+  pub no-size : (y : ℕ) → isSearched (a .measure) (a .p) (a .q) (length (featuresOf (a .query))) y ≡ false
+      → touchesOfSize (a .words) (a .measure) (a .p) (a .q) (featuresOf (a .query)) y ≡ 0
+  -- all sizes together at most x times the names, and at most 16,896
+  pub in-all : steps a ≤ length (featuresOf (a .query)) * nameCount (a .words)
+  pub most : steps a ≤ 16896
+  -- S is the smallest total of any x − t + 1 of the query's features
+  pub smallest : (y : ℕ) (chosen : ℕ → Bool)
+      → countOf chosen (featuresOf (a .query)) ≡ signatures (length (featuresOf (a .query))) (leastAt a y)
+      → postingsAt a y ≤ sumOf (map (λ (f : ℕ). length (listIn (a .words) y f)) (filterOf chosen (featuresOf (a .query))))
+
+-- ---- equal fractions
+
+-- the same question with another threshold
+abbrev pub withThreshold : ℕ → ℕ → Question → Question
+withThreshold p q a =
+    record {
+      query = a .query;
+      measure = a .measure;
+      p = p;
+      q = q;
+      allowance = a .allowance;
+      words = a .words;
+      ids = a .ids;
+      shared = a .shared;
+      sizes = a .sizes;
+    }
+
+-- two good thresholds that are one fraction give one answer and one list
+abbrev pub Fractions : Question → Type 0
+Fractions a = (p q : ℕ) → 1 ≤ a .p → a .p ≤ a .q → a .q ≤ 1000 → 1 ≤ p → p ≤ q → q ≤ 1000 → a .p * q ≡ p * a .q
+    → (answer (withThreshold p q a) ≡ answer a)
+    × (idsAfter (withThreshold p q a) ≡ idsAfter a)
+    × (sharedAfter (withThreshold p q a) ≡ sharedAfter a)
+    × (sizesAfter (withThreshold p q a) ≡ sizesAfter a)
