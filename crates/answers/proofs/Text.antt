@@ -6,9 +6,9 @@ use mathlib.Core.List.{List, [], _∷_, _++_, append-nil, append-assoc}
 use Prim.Native.Nat.{ℕ, zero, suc, _+_, _-_, _*_, _≤_, _<_}
 use native.Mathlib.Omega.{arith}
 use lib.ListN.{length, getD, take, drop, length-append, drop-of-length-le}
-use lib.Seq.{drop-drop, take-at, drop-append-add}
+use lib.Seq.{drop-drop, take-at, drop-at, drop-append-add}
 use lib.Dec.{eqb, leb, ltb}
-use borrow.Author.Tests.{le-leb}
+use borrow.Author.Tests.{le-leb, lt-leb}
 use borrow.Rule.Slice.PartMut.{putMid}
 use native.Mathlib.Numerals.{add-one}
 use Rattle.frames.specs.Lines.{hexOf, hexLine}
@@ -17,7 +17,9 @@ use Rattle.frames.specs.Layouts.{fieldBytes, nameBytes, lineOf, writtenOf, outO
 use Rattle.frames.specs.declared.Written.{Written}
 use Rattle.frames.specs.declared.Layout.{Layout}
 use Rattle.frames.specs.Frames.{rowFrame, endFrame, refusalFrame}
-use Rattle.answers.specs.Output.{rowLine, endLine, refusalLine, rowsText}
+use Rattle.answers.specs.Output.{rowLine, endLine, refusalLine, rowsText, foundText, answerText, fittingOf, fittedOf}
+use Rattle.search.specs.declared.Answer.{Answer}
+use Rattle.search.specs.declared.Answer.the-variants.{Found, Refused}
 
 -- ---- how long the lines are
 
@@ -80,3 +82,79 @@ rows-more ids shared sizes out k h =
 pub rows-all : (ids shared sizes out : List ℕ) (n : ℕ) → length out ≡ 11 * n → rowsText ids shared sizes n ++ drop (11 * n) out ≡ rowsText ids shared sizes n
 rows-all ids shared sizes out n e =
     ap (λ (t : List ℕ). rowsText ids shared sizes n ++ t) (drop-of-length-le out {i = 11 * n} (omega arith)) ∙ append-nil (rowsText ids shared sizes n)
+
+-- ---- the rows and their end
+
+pub end-exact : (rows touches p q : ℕ) (out : List ℕ) → length out ≡ 23 → outOf endFrame (rows ∷ touches ∷ p ∷ q ∷ []) [] out ≡ endLine rows touches p q
+end-exact rows touches p q out e = out-exact endFrame (rows ∷ touches ∷ p ∷ q ∷ []) out (length-end rows touches p q ∙ sym e)
+
+pub length-found : (rows touches p q : ℕ) (ids shared sizes : List ℕ) → length (foundText rows touches p q ids shared sizes) ≡ 11 * rows + 23
+unfolding foundText
+length-found rows touches p q ids shared sizes =
+    let a = length-append (rowsText ids shared sizes rows) (endLine rows touches p q) in
+    let b = length-rows ids shared sizes rows in
+    let c = length-end rows touches p q in
+    omega arith
+
+-- the end behind rows that fill the front
+pub put-end : (rows out part line : List ℕ) (n k : ℕ) → length rows ≡ n → k ≡ 23 → part ≡ line
+    → putMid n k (rows ++ drop n out) part ≡ (rows ++ line) ++ drop (n + 23) out
+put-end rows out part line n k l e p =
+    ap₂ (λ (t : List ℕ) (m : ℕ). take n (rows ++ drop n out) ++ (t ++ drop m (drop n (rows ++ drop n out)))) p e
+    ∙ ap₂ (λ (x y : List ℕ). x ++ (line ++ drop 23 y)) (take-at rows (drop n out) n l) (drop-at rows (drop n out) n l)
+    ∙ ap (λ (y : List ℕ). rows ++ (line ++ y)) (drop-drop 23 n out)
+    ∙ sym (append-assoc rows line (drop (n + 23) out))
+
+-- ---- lines that fit, and lines that don't
+
+pub fitting-none : (text : List ℕ) (room : ℕ) → room < length text → record { number = 8; len = 0 } ≡ fittingOf text room
+unfolding fittingOf
+fitting-none text room h = rw (lt-leb (length text) room h)
+
+pub fitted-none : (text out : List ℕ) → length out < length text → out ≡ fittedOf text out
+unfolding fittedOf
+fitted-none text out h = rw (lt-leb (length text) (length out) h)
+
+pub fitting-all : (text : List ℕ) (room n : ℕ) → length text ≡ n → n ≤ room → record { number = 0; len = n } ≡ fittingOf text room
+unfolding fittingOf
+fitting-all text room n e h = rw (le-leb (length text) room (omega arith)) (ap (λ (k : ℕ). record { number = 0; len = k }) (sym e))
+
+pub fitted-all : (text out : List ℕ) (n : ℕ) → length text ≡ n → n ≤ length out → text ++ drop n out ≡ fittedOf text out
+unfolding fittedOf
+fitted-all text out n e h = rw (le-leb (length text) (length out) (omega arith)) (ap (λ (k : ℕ). text ++ drop k out) (sym e))
+
+pub fitted-found : (rows touches p q : ℕ) (ids shared sizes out : List ℕ) → 11 * rows + 23 ≤ length out
+    → (rowsText ids shared sizes rows ++ endLine rows touches p q) ++ drop (11 * rows + 23) out ≡ fittedOf (foundText rows touches p q ids shared sizes) out
+fitted-found rows touches p q ids shared sizes out h =
+    unfolded ∙ fitted-all (foundText rows touches p q ids shared sizes) out (11 * rows + 23) (length-found rows touches p q ids shared sizes) h
+  where
+    unfolded : (rowsText ids shared sizes rows ++ endLine rows touches p q) ++ drop (11 * rows + 23) out ≡ foundText rows touches p q ids shared sizes ++ drop (11 * rows + 23) out
+    unfolded = unfold foundText in refl
+
+-- a refusal as its frame's writer leaves it
+pub refusal-fitting : (number touches room : ℕ) → writtenOf refusalFrame (number ∷ touches ∷ []) [] room ≡ fittingOf (refusalLine number touches) room
+unfolding writtenOf fittingOf
+refusal-fitting number touches room = refl
+
+pub refusal-fitted : (number touches : ℕ) (out : List ℕ) → outOf refusalFrame (number ∷ touches ∷ []) [] out ≡ fittedOf (refusalLine number touches) out
+unfolding outOf writtenOf fittedOf
+refusal-fitted number touches out = by-room (leb (length (refusalLine number touches)) (length out))
+  where
+    written : Bool → Written
+    written b = cond b (record { number = 0; len = length (refusalLine number touches) }) (record { number = 8; len = 0 })
+
+    by-room : (b : Bool) → cond (eqb (written b .number) 0) (refusalLine number touches ++ drop (length (refusalLine number touches)) out) out
+        ≡ cond b (refusalLine number touches ++ drop (length (refusalLine number touches)) out) out
+    by-room true = refl
+    by-room false = refl
+
+-- the text of an answer by its case
+pub text-found : (a : Answer) (rows touches p q : ℕ) (ids shared sizes : List ℕ) → a ≡ Found rows touches p q
+    → foundText rows touches p q ids shared sizes ≡ answerText a ids shared sizes
+unfolding answerText
+text-found a rows touches p q ids shared sizes e = sym (ap (λ (x : Answer). answerText x ids shared sizes) e)
+
+pub text-refused : (a : Answer) (number touches : ℕ) (ids shared sizes : List ℕ) → a ≡ Refused number touches
+    → refusalLine number touches ≡ answerText a ids shared sizes
+unfolding answerText
+text-refused a number touches ids shared sizes e = sym (ap (λ (x : Answer). answerText x ids shared sizes) e)

@@ -76,9 +76,13 @@ unfoldable pub rowsText : List ℕ → List ℕ → List ℕ → ℕ → List �
 rowsText ids shared sizes zero = []
 rowsText ids shared sizes (suc k) = rowsText ids shared sizes k ++ rowLine (getD ids k 0) (getD shared k 0) (getD sizes k 0)
 
+-- the lines of rows that were found, and their end
+unfoldable pub foundText : ℕ → ℕ → ℕ → ℕ → List ℕ → List ℕ → List ℕ → List ℕ
+foundText rows touches p q ids shared sizes = rowsText ids shared sizes rows ++ endLine rows touches p q
+
 -- the lines of an answer with its rows in three columns
 unfoldable pub answerText : Answer → List ℕ → List ℕ → List ℕ → List ℕ
-answerText (Found rows touches p q) ids shared sizes = rowsText ids shared sizes rows ++ endLine rows touches p q
+answerText (Found rows touches p q) ids shared sizes = foundText rows touches p q ids shared sizes
 answerText (Refused number touches) ids shared sizes = refusalLine number touches
 
 -- how many rows the program lends
