@@ -34,8 +34,9 @@ unfolding spanFor
 returns-2 c =
     let a = c .before .before .before .before .args in
     let good : goodOf (a .words .now) ≡ true = sym (c .before .before .good2 .ensures) ∙ not-false _ (c .before .if1 .left) in
-    let e = c .place-for-good .ensures in
-    ap₂ place (e .0) (e .1) ∙ sym (ap listAnswer (ap (λ b. cond b (spanIn (a .words .now) (a .size) (a .feature)) none) good))
+    let start : c .place-for-good .result .start ≡ spanIn (a .words .now) (a .size) (a .feature) .start = c .place-for-good .ensures .0 in
+    let count : c .place-for-good .result .count ≡ spanIn (a .words .now) (a .size) (a .feature) .count = c .place-for-good .ensures .1 in
+    ap₂ place start count ∙ sym (ap listAnswer (ap (λ b. cond b (spanIn (a .words .now) (a .size) (a .feature)) none) good))
 
 pub rushgirdle-list-spec : {M : Type 1} → statement M
 rushgirdle-list-spec = tie.close (tie.spec good-requires returns place-for-good-requires returns-2)
