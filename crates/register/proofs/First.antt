@@ -3,12 +3,12 @@
 use mathlib.Core.Path.{_≡_, refl, sym, ap, ap₂, _∙_}
 use mathlib.Core.Logic.{_⊎_, ⊎-elim}
 use mathlib.Core.List.{List, [], _∷_, _++_, map, append-nil, append-assoc}
-use Prim.Native.Nat.{ℕ, zero, suc, _+_, _<_}
+use Prim.Native.Nat.{ℕ, zero, suc, _+_, _≤_, _<_}
 use native.Mathlib.Omega.{arith}
-use borrow.Author.Tests.{eq-eqb, ne-eqb}
+use borrow.Author.Tests.{eq-eqb, ne-eqb, le-leb, lt-leb}
 use lib.ListN.{length, getD, take, length-append}
 use Rattle.laws.proofs.Order.{eq-or-ne}
-use Rattle.index.specs.Built.{Entry}
+use Rattle.index.specs.Built.{Entry, wordsOf}
 use Rattle.register.specs.Lines.{linesOf}
 use Rattle.register.specs.Build.{nextId, judgeLine, judgeNth, entryOf, Taken, takeLines, takenOf, entriesOf, builtOf}
 use Rattle.register.proofs.Taking.{take-none, take-bad, take-good}
@@ -98,3 +98,13 @@ module _ (register : List ℕ) where
   first-bad-built i room h g b =
       let e = first-bad i h g b in
       rw (ne-eqb (takenOf register .number) 0 (λ q. b (sym (e .0) ∙ q))) (ap₂ (λ (x y : ℕ). record { number = x; line = y }) (e .0) (e .1))
+
+  -- and where no line is bad: 8 and line 0 exactly if the index is longer than the room, otherwise 0 and 0
+  module _ (room : ℕ) (z : takenOf register .number ≡ 0) where
+    pub none-bad-over : room < length (wordsOf (entriesOf register)) → builtOf register room ≡ record { number = 8; line = 0 }
+    unfolding builtOf
+    none-bad-over h = rw (eq-eqb (takenOf register .number) 0 z, lt-leb (length (wordsOf (entriesOf register))) room h)
+
+    pub none-bad-fits : length (wordsOf (entriesOf register)) ≤ room → builtOf register room ≡ record { number = 0; line = 0 }
+    unfolding builtOf
+    none-bad-fits h = rw (eq-eqb (takenOf register .number) 0 z, le-leb (length (wordsOf (entriesOf register))) room h)

@@ -1,5 +1,5 @@
 -- What the words of an accepted build hold, in the register's own terms: the ids and the sizes of its lines in order, and for each name its own features.
--- Line i is counted from 0. Cited by the end-to-end theorem of a search.
+-- Line i is counted from 0. For who searches what was built.
 -- Assumes nothing.
 use mathlib.Core.Path.{_≡_, refl, sym, ap, ap₂, subst, _∙_}
 use mathlib.Core.Bool.{true}
