@@ -1,3 +1,4 @@
 pub mod Input
 pub mod Text
 pub mod Asking
+pub mod Responding
