@@ -2,3 +2,4 @@ pub mod Input
 pub mod Text
 pub mod Asking
 pub mod Responding
+pub mod Reading
