@@ -4,9 +4,8 @@ use mathlib.Core.Logic.{⊎-elim}
 use Prim.Native.Nat.{ℕ, _<_}
 use native.Mathlib.Omega.{arith}
 use lib.ListN.{getD}
-use Rattle.index.specs.Built.{keyOf}
+use Rattle.index.specs.Lists.{keyOf, rowKey, spanIn}
 use Rattle.index.specs.Part.{none}
-use Rattle.index.specs.Lists.{rowKey, spanIn}
 use Rattle.index.proofs.Laws.{good-three}
 use Rattle.index.proofs.Rows.{row-within, span-wide, span-met, span-other, span-after}
 use borrow.Author.Needs.{needs}

@@ -5,9 +5,8 @@ use Prim.Native.Nat.{ℕ, _+_, _*_, _<_}
 use native.Mathlib.Omega.{arith}
 use borrow.Author.Needs.{needs}
 use lib.ListN.{getD}
-use Rattle.index.specs.Built.{keyOf}
+use Rattle.index.specs.Lists.{keyOf, rowKey, spanIn, spanAt}
 use Rattle.index.specs.Part.{Span, none}
-use Rattle.index.specs.Lists.{rowKey, spanIn, spanAt}
 use Rattle.index.proofs.Laws.{good-three}
 use Rattle.index.proofs.Rows.{row-within, span-wide, span-met, span-other, span-after, span-row}
 use Rattle.index.proofs.place_for_good.Statement.{statement}

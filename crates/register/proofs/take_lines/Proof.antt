@@ -9,7 +9,7 @@ use lib.Seq.{length-take-le, paste}
 use Rattle.names.specs.Names.{judgeOf}
 use Rattle.names.specs.Features.{featuresOf}
 use Rattle.index.specs.Good.{mostNames, mostPostings}
-use Rattle.index.specs.Built.{tripleOf}
+use Rattle.postings.specs.Built.{tripleOf}
 use Rattle.register.proofs.Lines.{line-some, line-ends}
 use Rattle.register.proofs.Judging.{good-line}
 use Rattle.register.proofs.Taking.{Reached, id-most, tables-room, reached-nil, reached-all, reached-good, reached-bad, reached-more}

@@ -15,18 +15,18 @@ use Rattle.laws.proofs.Lists.{length-tabulate, getD-tabulate, tabulate-ext}
 use Rattle.laws.proofs.Members.{bool-same}
 use Rattle.laws.proofs.Sort.{ascending-distinct, ascending-unique, ascending-sort, member-sort, length-sort, sort-same}
 use Rattle.laws.proofs.Images.{ascending-tabulate, map-tabulate, each-tabulate}
 use Rattle.index.specs.Words.{nameCount, rowCount, nameWord, nameId, nameSize, rowSize, rowFeature, listAt, total}
 use Rattle.index.specs.Good.{Good}
 use Rattle.index.specs.Lists.{featuresIn}
-use Rattle.index.specs.Built.{Entry, noEntry, wordOf, idSpan, tripleOf, allTriples, Row, noRow, triplesFrom, runsOf, wordsFrom, rowsOf, wordsOf, EntryFit, Fit}
-use Rattle.index.specs.Contents.{namesIn, rowIn, rowsIn, entryIn, entriesIn, Narrow}
-use Rattle.index.specs.Plain.{Plain}
-use Rattle.index.proofs.Plain.{good-plain}
-use Rattle.index.proofs.Read.{words-in}
-use Rattle.index.proofs.Runs.{runs-unique, triples-place, triples-member, triples-ascending}
-use Rattle.index.proofs.Holders.{features-row, features-member, row-of-name, features-ascending, size-features, rows-fit}
-use Rattle.index.proofs.Entries.{entries-place, entries-member, distinct-entries}
-use Rattle.index.proofs.Built.{fit-at, built-name-count, built-id, built-features, built-good, built-narrow, built-words, built-names-in}
+use Rattle.postings.specs.Built.{Entry, noEntry, wordOf, idSpan, tripleOf, allTriples, Row, noRow, triplesFrom, runsOf, wordsFrom, rowsOf, wordsOf, EntryFit, Fit}
+use Rattle.postings.specs.Contents.{namesIn, rowIn, rowsIn, entryIn, entriesIn, Narrow}
+use Rattle.postings.specs.Plain.{Plain}
+use Rattle.postings.proofs.Plain.{good-plain}
+use Rattle.postings.proofs.Read.{words-in}
+use Rattle.postings.proofs.Runs.{runs-unique, triples-place, triples-member, triples-ascending}
+use Rattle.postings.proofs.Holders.{features-row, features-member, row-of-name, features-ascending, size-features, rows-fit}
+use Rattle.postings.proofs.Entries.{entries-place, entries-member, distinct-entries}
+use Rattle.postings.proofs.Built.{fit-at, built-name-count, built-id, built-features, built-good, built-narrow, built-words, built-names-in}
 
 -- ---- what stands in any words, by place
 

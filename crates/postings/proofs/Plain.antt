@@ -16,9 +16,9 @@ use Rattle.laws.proofs.Below.{and-left, and-right, and-both, all-at, all-of, an
 use Rattle.laws.proofs.Members.{member-at, member-place}
 use Rattle.laws.proofs.Sort.{ascending-of, ascending-step}
 use Rattle.names.specs.Features.{mostFeatures}
 use Rattle.index.specs.Words.{nameCount, rowCount, postingCount, nameId, nameSize, rowSize, rowPlace, rowLength, postingsStart, posting, listStart, listAt, total}
 use Rattle.index.specs.Good.{mostNames, mostPostings, largestId, leastSize, headGood, nameGood, namesGood, rowBefore, placeDue, rowGood, rowsGood, isName, listGood, listsWith, listsGood, goodOf, Good}
-use Rattle.index.specs.Plain.{Named, Plain}
+use Rattle.postings.specs.Plain.{Named, Plain}
 
 -- ---- the places of the rows
 

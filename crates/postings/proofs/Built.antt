@@ -23,17 +23,17 @@ use Rattle.laws.proofs.Images.{sort-map, count-tabulate, tabulate-of}
 use Rattle.names.specs.Names.{judgeOf}
 use Rattle.names.specs.Features.{characters, mostFeatures, featuresOf}
 use Rattle.names.proofs.Laws.{size-within, distinct-features, feature-fits}
 use Rattle.index.specs.Words.{nameCount, rowCount, postingCount, nameWord, nameId, nameSize, rowSize, rowFeature, rowPlace, rowLength, rowWidth, namesStart, listAt, total}
 use Rattle.index.specs.Good.{mostNames, mostPostings, largestId, rowBefore, listsWith, Good}
-use Rattle.index.specs.Lists.{listIn, featuresIn}
-use Rattle.index.specs.Built.{Entry, noEntry, wordOf, featureSpan, idSpan, tripleOf, triplesOf, allTriples, Row, noRow, runsOf, listsOf, triplesFrom, RowFit, RowsFit, rowWords, wordsFrom, rowsOf, wordsOf, EntryFit, Fit}
-use Rattle.index.specs.Contents.{namesIn, rowIn, rowsIn, entryIn, entriesIn, Narrow}
-use Rattle.index.specs.Plain.{Named, Plain}
-use Rattle.index.proofs.Plain.{plain-good}
-use Rattle.index.proofs.Read.{read-name-count, read-row-count, read-posting-count, read-name, read-size, read-feature, read-place, read-length, read-list, read-total, read-sum, read-narrow, read-names, read-rows}
-use Rattle.index.proofs.Runs.{length-runs, triples-runs, triples-place, triples-member, runs-fit, count-triples}
-use Rattle.index.proofs.Holders.{before-of, list-row, name-unique, row-found, features-list, features-ascending}
-use Rattle.index.proofs.Entries.{entries-place, entries-member, length-entries, distinct-entries, count-entries}
+use Rattle.index.specs.Lists.{listIn, featuresIn, featureSpan}
+use Rattle.postings.specs.Built.{Entry, noEntry, wordOf, idSpan, tripleOf, triplesOf, allTriples, Row, noRow, runsOf, listsOf, triplesFrom, RowFit, RowsFit, rowWords, wordsFrom, rowsOf, wordsOf, EntryFit, Fit}
+use Rattle.postings.specs.Contents.{namesIn, rowIn, rowsIn, entryIn, entriesIn, Narrow}
+use Rattle.postings.specs.Plain.{Named, Plain}
+use Rattle.postings.proofs.Plain.{plain-good}
+use Rattle.postings.proofs.Read.{read-name-count, read-row-count, read-posting-count, read-name, read-size, read-feature, read-place, read-length, read-list, read-total, read-sum, read-narrow, read-names, read-rows}
+use Rattle.postings.proofs.Runs.{length-runs, triples-runs, triples-place, triples-member, runs-fit, count-triples}
+use Rattle.postings.proofs.Holders.{before-of, list-row, name-unique, row-found, features-list, features-ascending}
+use Rattle.postings.proofs.Entries.{entries-place, entries-member, length-entries, distinct-entries, count-entries}
 
 -- ---- the rows of names within the limits
 

@@ -20,13 +20,13 @@ use Rattle.laws.proofs.Members.{bool-same, or-cases, or-right, member-head, mem
 use Rattle.laws.proofs.Order.{le-or-lt}
 use Rattle.laws.proofs.Sort.{ascending-nil, ascending-snoc}
 use Rattle.laws.proofs.Images.{ascending-tabulate, map-tabulate, each-tabulate}
 use Rattle.index.specs.Words.{nameCount, rowCount, nameId, nameSize, rowSize, rowFeature, listAt}
 use Rattle.index.specs.Good.{rowBefore, listsWith}
-use Rattle.index.specs.Lists.{rowIs, rowFor, listIn, featuresAmong, featuresIn}
-use Rattle.index.specs.Built.{Row, keyOf, RowFit, RowsFit}
-use Rattle.index.specs.Contents.{rowIn, rowsIn, Narrow}
-use Rattle.index.specs.Plain.{Plain}
-use Rattle.index.proofs.Plain.{plain-length}
+use Rattle.index.specs.Lists.{rowIs, rowFor, listIn, featuresAmong, featuresIn, keyOf}
+use Rattle.postings.specs.Built.{Row, RowFit, RowsFit}
+use Rattle.postings.specs.Contents.{rowIn, rowsIn, Narrow}
+use Rattle.postings.specs.Plain.{Plain}
+use Rattle.postings.proofs.Plain.{plain-length}
 
 -- ---- a row before another
 
