@@ -1,5 +1,5 @@
 -- What the halving search of rows needs: rows of a good index rise by size and feature as one number, where every word fits 32 bits.
--- Cited by the proofs of `rows_below`, `list_at` and `list_for_good`.
+-- Cited by the proofs of `rows_below` and `place_for_good`.
 -- Assumes nothing.
 use mathlib.Core.Path.{_≡_, sym, ap, subst, _∙_}
 use mathlib.Core.Logic.{⊎-elim, inl, inr}
