@@ -1,6 +1,6 @@
 mod Digits
 mod Search
-mod Facts
+pub mod Facts
 pub mod Laws
 mod Rows
 pub mod Spans

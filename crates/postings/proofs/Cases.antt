@@ -1,10 +1,8 @@
 -- Worked examples of an index, by computation: the index of LANE (10), LANES (11) and PLANE (12) is good, and a list of it.
 -- Assumes nothing.
 use mathlib.Core.Path.{_≡_, refl}
-use mathlib.Core.Bool.{true, false}
+use mathlib.Core.Bool.{true}
 use mathlib.Core.List.{List, [], _∷_}
-use Prim.Native.Nat.{ℕ}
-use lib.ListN.{length, take, set}
 use Rattle.laws.specs.Lists.{member, countOf, tabulate}
 use Rattle.laws.specs.Below.{allBelow, anyBelow, sumBelow}
 use Rattle.laws.specs.First.{firstFrom}
