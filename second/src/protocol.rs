@@ -32,11 +32,22 @@ pub enum Kind {
     Build,
     Search,
     Frames,
+    /// The protocol of `Good`, on indexes of which every word is changed in turn.
+    Sweep,
 }
 
 impl Kind {
-    pub const ALL: [Kind; 8] =
-        [Kind::Lookup, Kind::Features, Kind::Likeness, Kind::Good, Kind::List, Kind::Build, Kind::Search, Kind::Frames];
+    pub const ALL: [Kind; 9] = [
+        Kind::Lookup,
+        Kind::Features,
+        Kind::Likeness,
+        Kind::Good,
+        Kind::List,
+        Kind::Build,
+        Kind::Search,
+        Kind::Frames,
+        Kind::Sweep,
+    ];
 
     pub fn word(self) -> &'static str {
         match self {
@@ -48,6 +59,7 @@ impl Kind {
             Kind::Build => "build",
             Kind::Search => "search",
             Kind::Frames => "frames",
+            Kind::Sweep => "sweep",
         }
     }
 
@@ -66,7 +78,7 @@ impl Kind {
             Kind::Lookup => return Ok(lookup(input)),
             Kind::Features => features_line,
             Kind::Likeness => likeness_line,
-            Kind::Good => good_line,
+            Kind::Good | Kind::Sweep => good_line,
             Kind::List => list_line,
             Kind::Build => build_line,
             Kind::Search => search_line,

@@ -67,6 +67,33 @@ fn every_number_comes_up() {
     assert_eq!(numbers(Kind::Build, 3000), set(&[0, 1, 2, 3, 8, 9, 10, 11]));
     assert_eq!(numbers(Kind::Search, 1500), set(&[0, 1, 2, 3, 4, 5, 6, 7, 8]));
     assert_eq!(numbers(Kind::Frames, 1500), set(&[0, 2, 8, 11]));
+    assert_eq!(numbers(Kind::Sweep, 1500), set(&[0, 1]));
+}
+
+/// Every word of the index of a sweep is changed, and each in more than one way that is seen: a header word, a name, a
+/// size, a place, a count and a posting make it not good; a feature may be another one.
+#[test]
+fn a_sweep_changes_every_word() {
+    for index in 0..20 {
+        let line = |at| String::from_utf8(input(Kind::Sweep, SEED, index * words::STRETCH + at)).unwrap();
+        let read = |at| line(at).split_whitespace().map(|word| word.parse().unwrap()).collect::<Vec<u32>>();
+        let length = read(0).len();
+        assert!(8 * length <= words::STRETCH as usize);
+        let whole = read(7 * length as u64);
+        assert!(good(&whole));
+        let (names, rows) = (whole[0] as usize, whole[1] as usize);
+        let mut refused = vec![0; length];
+        for at in 0..words::STRETCH {
+            let changed = read(at);
+            let places: Vec<usize> = (0..length).filter(|place| changed[*place] != whole[*place]).collect();
+            assert!(places.is_empty() || places == [at as usize % length]);
+            refused[at as usize % length] += usize::from(!good(&changed));
+        }
+        for (place, times) in refused.into_iter().enumerate() {
+            let feature = place >= 3 + names && place < 3 + names + 4 * rows && (place - 3 - names) % 4 == 1;
+            assert!(feature || times >= 2, "word {place} of {whole:?}");
+        }
+    }
 }
 
 #[test]

@@ -8,10 +8,13 @@ use native.Mathlib.Nat.{add-zero}
 use native.Mathlib.Omega.{arith}
 use lib.ListN.{length, getD, take, drop, replicate, length-drop, drop-of-length-le, List·getD-eq-default}
 use lib.Seq.{length-take-le, drop-drop, getD-drop}
-use lib.Dec.{eqb}
+use lib.Dec.{eqb, ltb}
 use borrow.Author.Tests.{eq-eqb, ne-eqb, eqb-true, lt-ltb, le-ltb}
-use Rattle.register.specs.Lines.{linesOf, lineLength, lineFeed}
+use Rattle.index.specs.Good.{Good, goodOf}
+use Rattle.index.proofs.Laws.{refused-not-good}
+use Rattle.register.specs.Lines.{linesOf, lineLength, lineFeed, joinLine}
 use Rattle.register.proofs.Lines.{lines-nil, lines-step, line-within}
+use Rattle.register.proofs.Laws.{accepted-good, refused-bad}
 use Rattle.register.specs.Build.{blank, builtOf, wordsAfter}
 use Rattle.register.specs.declared.Built.{Built}
 use Rattle.answers.specs.declared.Opened.{Opened}
@@ -114,3 +117,82 @@ module _ (input words : List ℕ) where
       → after ≡ openWords input words
   unfolding openWords
   words-built at after h e f = rw (le-ltb mostInput (length input) h) (f ∙ ap (λ (k : ℕ). wordsAfter (take k input) words) e)
+
+-- ---- an input that was opened
+
+-- the bytes of lines
+allBytes : List (List ℕ) → ℕ
+allBytes [] = 0
+allBytes (l ∷ ls) = length l + allBytes ls
+
+before-most : (ls : List (List ℕ)) → bytesBefore ls ≤ allBytes ls
+unfolding bytesBefore allBytes
+before-most [] = omega arith
+before-most (l ∷ ls) = by-test (begins l) (before-most ls)
+  where
+    by-test : (b : Bool) → bytesBefore ls ≤ allBytes ls → cond b 0 (length l + bytesBefore ls) ≤ length l + allBytes ls
+    by-test true h = omega arith
+    by-test false h = omega arith
+
+bytes-joined : (b : ℕ) (ls : List (List ℕ)) → allBytes (joinLine b ls) ≡ 1 + allBytes ls
+unfolding joinLine allBytes
+bytes-joined b [] = refl
+bytes-joined b (l ∷ ls) = omega arith
+
+bytes-lines : (s : List ℕ) → allBytes (linesOf s) ≡ length s
+unfolding linesOf allBytes
+bytes-lines [] = refl
+bytes-lines (b ∷ s) = by-feed (eqb b lineFeed) (bytes-lines s)
+  where
+    by-feed : (t : Bool) → allBytes (linesOf s) ≡ length s → allBytes (cond t ((b ∷ []) ∷ linesOf s) (joinLine b (linesOf s))) ≡ suc (length s)
+    by-feed true e = omega arith
+    by-feed false e = let j = bytes-joined b (linesOf s) in omega arith
+
+-- the register ends within the input
+pub end-within : (s : List ℕ) → registerEnd s ≤ length s
+unfolding registerEnd
+end-within s = let a = before-most (linesOf s) in let b = bytes-lines s in omega arith
+
+pub opened-within : (input : List ℕ) (room : ℕ) → openedOf input room .at ≤ length input
+unfolding openedOf
+opened-within input room = by-size (ltb mostInput (length input))
+  where
+    opened : Bool → Opened
+    opened b =
+        cond b
+        (record { number = 8; line = 0; at = 0 })
+        (record { number = builtOf (take (registerEnd input) input) room .number; line = builtOf (take (registerEnd input) input) room .line; at = registerEnd input })
+
+    by-size : (b : Bool) → opened b .at ≤ length input
+    by-size true = omega arith
+    by-size false = end-within input
+
+-- an input that is opened has a good index
+pub opened-good : (input words : List ℕ) → openedOf input (length words) .number ≡ 0 → Good (openWords input words)
+unfolding openedOf openWords
+opened-good input words z = by-size (ltb mostInput (length input)) z
+  where
+    opened : Bool → Opened
+    opened b =
+        cond b
+        (record { number = 8; line = 0; at = 0 })
+        (record { number = builtOf (take (registerEnd input) input) (length words) .number; line = builtOf (take (registerEnd input) input) (length words) .line; at = registerEnd input })
+
+    by-size : (b : Bool) → opened b .number ≡ 0 → Good (cond b (replicate (length words) blank) (wordsAfter (take (registerEnd input) input) words))
+    by-size true e = absurd (omega arith)
+    by-size false e = accepted-good (take (registerEnd input) input) words e
+
+-- and one that is refused has words that every search refuses
+pub opened-bad : (input words : List ℕ) → (openedOf input (length words) .number ≡ 0 → ⊥) → goodOf (openWords input words) ≡ false
+unfolding openedOf openWords
+opened-bad input words n = by-size (ltb mostInput (length input)) n
+  where
+    opened : Bool → Opened
+    opened b =
+        cond b
+        (record { number = 8; line = 0; at = 0 })
+        (record { number = builtOf (take (registerEnd input) input) (length words) .number; line = builtOf (take (registerEnd input) input) (length words) .line; at = registerEnd input })
+
+    by-size : (b : Bool) → (opened b .number ≡ 0 → ⊥) → goodOf (cond b (replicate (length words) blank) (wordsAfter (take (registerEnd input) input) words)) ≡ false
+    by-size true n = refused-not-good (length words)
+    by-size false n = refused-bad (take (registerEnd input) input) words n

@@ -1,2 +1,3 @@
 pub mod Input
 pub mod Text
+pub mod Asking

@@ -5,10 +5,10 @@ use mathlib.Core.Bool.{Bool, true, false, cond}
 use mathlib.Core.List.{List, [], _∷_, _++_, append-nil, append-assoc}
 use Prim.Native.Nat.{ℕ, zero, suc, _+_, _-_, _*_, _≤_, _<_}
 use native.Mathlib.Omega.{arith}
-use lib.ListN.{length, getD, take, drop, length-append, drop-of-length-le}
+use lib.ListN.{length, getD, take, drop, length-append, length-drop, drop-of-length-le}
 use lib.Seq.{drop-drop, take-at, drop-at, drop-append-add}
 use lib.Dec.{eqb, leb, ltb}
-use borrow.Author.Tests.{le-leb, lt-leb}
+use borrow.Author.Tests.{le-leb, lt-leb, leb-true}
 use borrow.Rule.Slice.PartMut.{putMid}
 use native.Mathlib.Numerals.{add-one}
 use Rattle.frames.specs.Lines.{hexOf, hexLine}
@@ -158,3 +158,34 @@ pub text-refused : (a : Answer) (number touches : ℕ) (ids shared sizes : List 
     → refusalLine number touches ≡ answerText a ids shared sizes
 unfolding answerText
 text-refused a number touches ids shared sizes e = sym (ap (λ (x : Answer). answerText x ids shared sizes) e)
+
+-- ---- what was written lies within the buffer
+
+pub fitting-within : (text : List ℕ) (room : ℕ) → fittingOf text room .len ≤ room
+unfolding fittingOf
+fitting-within text room = by-room (leb (length text) room) refl
+  where
+    written : Bool → Written
+    written b = cond b (record { number = 0; len = length text }) (record { number = 8; len = 0 })
+
+    by-room : (b : Bool) → leb (length text) room ≡ b → written b .len ≤ room
+    by-room true e = leb-true (length text) room e
+    by-room false e = omega arith
+
+pub length-fitted : (text out : List ℕ) → length (fittedOf text out) ≡ length out
+unfolding fittedOf
+length-fitted text out = by-room (leb (length text) (length out)) refl
+  where
+    by-room : (b : Bool) → leb (length text) (length out) ≡ b → length (cond b (text ++ drop (length text) out) out) ≡ length out
+    by-room true e =
+        let h = leb-true (length text) (length out) e in
+        let a = length-append text (drop (length text) out) in
+        let b = length-drop (length text) out in
+        omega arith
+    by-room false e = refl
+
+pub refusal-within : (number touches room : ℕ) → writtenOf refusalFrame (number ∷ touches ∷ []) [] room .len ≤ room
+refusal-within number touches room =
+    let e = ap (λ (x : Written). x .len) (refusal-fitting number touches room) in
+    let h = fitting-within (refusalLine number touches) room in
+    omega arith

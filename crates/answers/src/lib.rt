@@ -6,7 +6,9 @@ ghost use mathlib.Core.List.{List, _++_};
 ghost use Prim.Native.Nat.{ℕ, _+_, _*_, _≤_, _<_};
 ghost use lib.ListN.{length, getD, take, drop};
 ghost use Rattle.index.specs.Good.{Good};
-ghost use Rattle.search.specs.Answers.{rowsIn};
+ghost use Rattle.names.specs.Features.{featuresOf};
+ghost use Rattle.search.specs.Method.{answersOf};
+ghost use Rattle.search.specs.Answers.{rowsIn, searchOf, givenBy, roomOf, over, idColumn, sharedColumn, sizeColumn};
 ghost use Rattle.answers.specs.Output.{begins, registerEnd, openedOf, openWords, rowLine, rowsText, rowsLent, foundText, answerText, answerOf, fittingOf, fittedOf};
 ghost use Rattle.answers.specs.Rows.{Shown};
 use frames::Written;
@@ -136,4 +138,105 @@ fn put_answer(answer: Answer, ids: &[u32], shared: &[u32], sizes: &[u32], out: &
         } => put_found(rows, touches, p, q, ids, shared, sizes, out),
         Answer::Refused { number, touches } => frames::write_refusal(out, number, touches),
     }
+}
+
+// The search of words that are known to be good without the check, of any others with it.
+fn ask(
+    known: bool,
+    query: &[u8],
+    measure: u8,
+    p: u16,
+    q: u16,
+    allowance: u32,
+    words: &[u32],
+    ids: &mut [u32],
+    shared: &mut [u32],
+    sizes: &mut [u32],
+) -> Answer
+    requires { ⌜ (known ≡ true → Good (now words)) ⌝ }
+    ensures { λ r. ⌜ r ≡ searchOf (now (query .entry)) measure p q allowance (now (words .entry)) (roomOf (now (ids .entry)) (now (shared .entry)) (now (sizes .entry))) ⌝ }
+    ensures { λ r. ⌜ now (ids .exit) ≡ over (idColumn (now (words .entry)) (givenBy r (answersOf (now (words .entry)) measure p q (featuresOf (now (query .entry)))))) (now (ids .entry)) ⌝ }
+    ensures { λ r. ⌜ now (shared .exit) ≡ over (sharedColumn (now (words .entry)) (featuresOf (now (query .entry))) (givenBy r (answersOf (now (words .entry)) measure p q (featuresOf (now (query .entry)))))) (now (shared .entry)) ⌝ }
+    ensures { λ r. ⌜ now (sizes .exit) ≡ over (sizeColumn (now (words .entry)) (givenBy r (answersOf (now (words .entry)) measure p q (featuresOf (now (query .entry)))))) (now (sizes .entry)) ⌝ }
+{
+    if known {
+        return search::search_good(query, measure, p, q, allowance, words, ids, shared, sizes);
+    }
+    search::search(query, measure, p, q, allowance, words, ids, shared, sizes)
+}
+
+// Answers a query line with tables that are lent.
+fn answer_with(
+    known: bool,
+    line: &[u8],
+    words: &[u32],
+    query: &mut [u8],
+    ids: &mut [u32],
+    shared: &mut [u32],
+    sizes: &mut [u32],
+    out: &mut [u8],
+) -> Written
+    requires { ⌜ (known ≡ true → Good (now words)) × (length (now query) ≡ 255) × (length (now ids) ≡ rowsLent) × (length (now shared) ≡ rowsLent) × (length (now sizes) ≡ rowsLent) ⌝ }
+    ensures { λ r. ⌜ (r ≡ fittingOf (answerOf (now (words .entry)) (now (line .entry))) (length (now (out .entry)))) × (now (out .exit) ≡ fittedOf (answerOf (now (words .entry)) (now (line .entry))) (now (out .entry))) ⌝ }
+{
+    let read = frames::read_query(line, query);
+    let number = read.number;
+    if number != 0 {
+        return frames::write_refusal(out, number, 0);
+    }
+    let len = read.len;
+    let answer = ask(
+        known,
+        &query[..len],
+        read.measure,
+        read.p,
+        read.q,
+        read.allowance,
+        words,
+        ids,
+        shared,
+        sizes,
+    );
+    put_answer(answer, ids, shared, sizes, out)
+}
+
+// Writes the lines that a query line is answered with, where they fit, from words that are known to be good.
+pub fn answer_good(line: &[u8], words: &[u32], out: &mut [u8]) -> Written
+    requires { ⌜ Good (now words) ⌝ }
+    ensures { λ r. ⌜ (r ≡ fittingOf (answerOf (now (words .entry)) (now (line .entry))) (length (now (out .entry)))) × (now (out .exit) ≡ fittedOf (answerOf (now (words .entry)) (now (line .entry))) (now (out .entry))) ⌝ }
+{
+    let mut query = [0u8; 255];
+    let mut ids = [0u32; 256];
+    let mut shared = [0u32; 256];
+    let mut sizes = [0u32; 256];
+    answer_with(
+        true,
+        line,
+        words,
+        &mut query,
+        &mut ids,
+        &mut shared,
+        &mut sizes,
+        out,
+    )
+}
+
+// Writes the lines that a query line is answered with, where they fit, from any words.
+pub fn answer(line: &[u8], words: &[u32], out: &mut [u8]) -> Written
+    ensures { λ r. ⌜ (r ≡ fittingOf (answerOf (now (words .entry)) (now (line .entry))) (length (now (out .entry)))) × (now (out .exit) ≡ fittedOf (answerOf (now (words .entry)) (now (line .entry))) (now (out .entry))) ⌝ }
+{
+    let mut query = [0u8; 255];
+    let mut ids = [0u32; 256];
+    let mut shared = [0u32; 256];
+    let mut sizes = [0u32; 256];
+    answer_with(
+        false,
+        line,
+        words,
+        &mut query,
+        &mut ids,
+        &mut shared,
+        &mut sizes,
+        out,
+    )
 }

@@ -2,7 +2,7 @@
 -- Assumes nothing.
 use mathlib.Core.Path.{_≡_, refl}
 use mathlib.Core.List.{List, [], _∷_, _++_}
-use Prim.Native.Nat.{ℕ}
+use Prim.Native.Nat.{ℕ, zero, suc, _+_, _/_, _%_}
 use lib.ListN.{length, replicate}
 use Rattle.laws.specs.Lists.{member, tabulate, sumOf}
 use Rattle.laws.specs.Sort.{insert, sortOf}
@@ -74,9 +74,14 @@ first-decides : builtOf (lane ++ lane ++ (10 ∷ [])) 99 ≡ record { number = 9
 unfolding joinLine linesOf nextFrom judgeLine takeLines takenOf builtOf wordsAfter triplesOf allTriples joinRow runsOf listsOf rowWords wordsFrom rowsOf wordsOf insert sortOf member tabulate sumOf judgeOf padded joined gramAt timesIn numberAt numbered featuresBy featuresOf digitOf placeIn valueOf isDigit hexOf hexLine wellFormed bytesOf numberOf headSize nameSize laidOut isFrame fieldsOf fieldsIn nameIn
 first-decides = refl
 
+-- the lines of names of one byte under the ids from i on, k of them
+crowd : ℕ → ℕ → List ℕ
+crowd i zero = []
+crowd i (suc k) = line (i / 256 ∷ i % 256 ∷ 1 ∷ 65 ∷ []) ++ crowd (i + 1) k
+
 -- a 257th name
-many : judgeLine 256 11 lanes ≡ 10
-unfolding joinLine linesOf nextFrom judgeLine takeLines takenOf builtOf wordsAfter triplesOf allTriples joinRow runsOf listsOf rowWords wordsFrom rowsOf wordsOf insert sortOf member tabulate sumOf judgeOf padded joined gramAt timesIn numberAt numbered featuresBy featuresOf digitOf placeIn valueOf isDigit hexOf hexLine wellFormed bytesOf numberOf headSize nameSize laidOut isFrame fieldsOf fieldsIn nameIn
+many : builtOf (crowd 0 257) 99 ≡ record { number = 10; line = 257 }
+unfolding joinLine linesOf nextFrom judgeLine takeLines takenOf builtOf wordsAfter triplesOf allTriples joinRow runsOf listsOf rowWords wordsFrom rowsOf wordsOf insert sortOf member tabulate sumOf judgeOf padded joined gramAt timesIn numberAt numbered featuresBy featuresOf digitOf placeIn valueOf isDigit hexOf hexLine wellFormed bytesOf numberOf headSize nameSize laidOut isFrame fieldsOf fieldsIn nameIn crowd
 many = refl
 
 -- 3 + 1 + 4 × 6 + 6 words are 34

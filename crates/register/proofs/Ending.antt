@@ -10,10 +10,13 @@ use borrow.Rule.Slice.PartMut.{putMid}
 use lib.ListN.{length, take, drop, set, replicate, length-append, length-drop, length-map, drop-of-length-le}
 use lib.Seq.{drop-drop, take-append-seam, take-at, length-take-le}
 use Rattle.laws.specs.Sort.{sortOf}
+use Rattle.index.specs.Good.{mostNames, mostPostings}
 use Rattle.postings.specs.Built.{Entry, wordOf, idSpan, allTriples, listsOf, runsOf, rowWords, wordsFrom, rowsOf, wordsOf}
 use Rattle.postings.proofs.Runs.{lists-runs, length-runs}
 use Rattle.postings.proofs.Read.{length-row-words}
+use Rattle.postings.proofs.Built.{few-postings}
 use Rattle.register.specs.declared.Built.{Built}
+use Rattle.register.specs.Steps.{Tables}
 use Rattle.register.specs.Build.{takenOf, entriesOf, roomFor, blank, padTo, builtOf, wordsAfter}
 
 -- ---- parts put in place
@@ -71,6 +74,26 @@ put-all names tail words ks k m d h l e f =
 pub put-long : (names tail words : List ℕ) (k m : ℕ) → 3 ≤ length words → length (putMid 3 k words names) ≤ 3 + length names + m
     → 3 ≤ length (putMid (3 + length names) m (putMid 3 k words names) tail)
 put-long names tail words k m h l = let p = parts names tail words k m h l in let e = ap length (p .3) in omega arith
+
+-- ---- the tables, all lines read
+
+-- the tables hold the names, and the names and postings lie within them
+pub record Held (es : List Entry) (names triples spare : List ℕ) (n p : ℕ) : Type 0 where
+  pub tables : Tables es names triples n p
+  pub few : n ≤ mostNames
+  pub most : p ≤ mostPostings
+  pub names-within : n ≤ length names
+  pub triples-within : p ≤ length triples
+  pub spare-within : p ≤ length spare
+
+pub held : {es : List Entry} {names triples : List ℕ} {n p : ℕ} → Tables es names triples n p → (spare : List ℕ)
+    → length names ≡ mostNames → length triples ≡ mostPostings → length spare ≡ mostPostings → Held es names triples spare n p
+held {es} t spare a b c =
+    let n = t .count in
+    let p = t .sum in
+    let f = t .fit .few in
+    let m = few-postings es (t .fit) in
+    record { tables = t; few = omega arith; most = omega arith; names-within = omega arith; triples-within = omega arith; spare-within = omega arith }
 
 -- ---- the answer
 

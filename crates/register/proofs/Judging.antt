@@ -62,50 +62,58 @@ good-line count next line z =
 
 -- ---- a line that was read into a buffer of 255 bytes
 
+-- a line that was read: its number where it is bad, and otherwise its id, and its name at the start of the buffer
+pub record LineRead (r : NameRead) (line after : List ℕ) : Type 0 where
+  pub bad : (r .number ≡ 0 → ⊥) → (count next : ℕ) → r .number ≡ judgeLine count next line
+  pub frame : r .number ≡ 0 → isFrame nameFrame line ≡ true
+  pub id : r .number ≡ 0 → r .id ≡ idIn line
+  pub within : r .number ≡ 0 → r .len ≤ length after
+  pub name : r .number ≡ 0 → take (r .len) after ≡ nameOf line
+
 module _ (r : NameRead) (line buffer after : List ℕ) (size : length buffer ≡ 255) (e : nameOut r ≡ readOf nameFrame line (length buffer)) (a : after ≡ bufferOf nameFrame line buffer) where
   read-as : (t : Bool) → isFrame nameFrame line ≡ t → nameOut r ≡ cond t (acceptedAs nameFrame line) (refusedWith nameFrame 11)
   read-as t f = e ∙ read-roomy nameFrame line (length buffer) (omega arith) ∙ ap (λ (x : Bool). cond x (acceptedAs nameFrame line) (refusedWith nameFrame 11)) f
 
-  pub read-frame : r .number ≡ 0 → isFrame nameFrame line ≡ true
+  read-frame : r .number ≡ 0 → isFrame nameFrame line ≡ true
   read-frame z = by-test (isFrame nameFrame line) refl
     where
       by-test : (t : Bool) → isFrame nameFrame line ≡ t → t ≡ true
       by-test true f = refl
       by-test false f = let n : r .number ≡ 11 = ap (λ (x : Reading). x .number) (read-as false f) in absurd (omega arith)
 
-  pub read-bad : (count next : ℕ) → (r .number ≡ 0 → ⊥) → r .number ≡ judgeLine count next line
+  read-bad : (count next : ℕ) → (r .number ≡ 0 → ⊥) → r .number ≡ judgeLine count next line
   read-bad count next n = by-test (isFrame nameFrame line) refl
     where
       by-test : (t : Bool) → isFrame nameFrame line ≡ t → r .number ≡ judgeLine count next line
       by-test true f = absurd (n (ap (λ (x : Reading). x .number) (read-as true f)))
       by-test false f = ap (λ (x : Reading). x .number) (read-as false f) ∙ sym (judged-malformed count next line f)
 
-  pub read-id : r .number ≡ 0 → r .id ≡ idIn line
+  read-id : r .number ≡ 0 → r .id ≡ idIn line
   read-id z = ap (λ (x : Reading). getD (x .fields) 0 0) (read-as true (read-frame z))
 
-  pub read-len : r .number ≡ 0 → r .len ≡ length (nameOf line)
+  read-len : r .number ≡ 0 → r .len ≡ length (nameOf line)
   read-len z = ap (λ (x : Reading). x .len) (read-as true (read-frame z))
-
-  pub read-short : r .number ≡ 0 → r .len ≤ 255
-  read-short z = let n = read-len z in let s = read-fits nameFrame line (read-frame z) .short in omega arith
 
   left : r .number ≡ 0 → after ≡ nameOf line ++ drop (length (nameOf line)) buffer
   unfolding bufferOf
   left z =
       a ∙ (let n : readOf nameFrame line (length buffer) .number ≡ 0 = sym (ap (λ (x : Reading). x .number) e) ∙ z in rw (eq-eqb (readOf nameFrame line (length buffer) .number) 0 n))
 
-  pub read-within : r .number ≡ 0 → r .len ≤ length after
+  read-within : r .number ≡ 0 → r .len ≤ length after
   read-within z =
       let n = ap length (left z) in
       let m = length-append (nameOf line) (drop (length (nameOf line)) buffer) in
       let k = read-len z in
       omega arith
 
-  pub read-name : r .number ≡ 0 → take (r .len) after ≡ nameOf line
+  read-name : r .number ≡ 0 → take (r .len) after ≡ nameOf line
   read-name z =
       ap (λ (n : ℕ). take n after) (read-len z)
       ∙ ap (take (length (nameOf line))) (left z)
       ∙ take-append-seam (nameOf line) (drop (length (nameOf line)) buffer)
+
+  pub line-read : LineRead r line after
+  line-read = record { bad = λ n count next. read-bad count next n; frame = read-frame; id = read-id; within = read-within; name = read-name }
 
 -- ---- what judging answers
 

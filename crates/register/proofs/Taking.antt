@@ -8,6 +8,7 @@ use native.Mathlib.Omega.{arith}
 use borrow.Author.Tests.{eq-eqb, ne-eqb}
 use lib.ListN.{length, getD, take, drop, set, length-append, length-drop, length-map, drop-of-length-le}
 use lib.Seq.{drop-drop, take-all, take-suc-set, take-paste, paste}
+use Rattle.names.specs.Names.{judgeOf}
 use Rattle.names.specs.Features.{featuresOf, mostFeatures}
 use Rattle.frames.specs.Layouts.{readOf}
 use Rattle.frames.specs.Frames.{nameFrame}
@@ -20,7 +21,7 @@ use Rattle.postings.proofs.Built.{fit-nil, fit-snoc, name-fit, triples-append}
 use Rattle.register.specs.Lines.{linesOf, lineLength}
 use Rattle.register.specs.Build.{idIn, nameOf, nextFrom, nextId, judgeLine, entryOf, Taken, takeLines, takenOf, entriesOf}
 use Rattle.register.specs.Steps.{Tables, Read}
-use Rattle.register.proofs.Lines.{lines-nil, lines-step}
+use Rattle.register.proofs.Lines.{lines-nil, lines-step, line-some}
 use Rattle.register.proofs.Judging.{good-line}
 
 -- ---- the least id that may follow
@@ -141,51 +142,89 @@ reached-nil register names triples =
       within = omega arith;
     }
 
-module _ (register names triples : List ℕ) (n p next at : ℕ) (r : Reached register names triples n p next at) where
-  pub reached-all : length register ≤ at → Read register names triples 0 0 n p
-  reached-all h =
-      let e : takeLines (r .es) [] ≡ takenOf register = ap (takeLines (r .es)) (sym (ap linesOf (drop-of-length-le register {i = at} h) ∙ lines-nil)) ∙ r .rest in
-      let f = sym (take-none (r .es)) ∙ e in
+pub reached-all : {register names triples : List ℕ} {n p next at : ℕ} → Reached register names triples n p next at → length register ≤ at → Read register names triples 0 0 n p
+reached-all {register} {names} {triples} {n} {p} {next} {at} r h =
+    let e : takeLines (r .es) [] ≡ takenOf register = ap (takeLines (r .es)) (sym (ap linesOf (drop-of-length-le register {i = at} h) ∙ lines-nil)) ∙ r .rest in
+    let f = sym (take-none (r .es)) ∙ e in
+    record {
+      number = ap (λ (x : Taken). x .number) f;
+      line = ap (λ (x : Taken). x .line) f;
+      tables = λ q. subst (λ (x : Taken). Tables (x .entries) names triples n p) f (r .tables);
+    }
+
+-- ---- one turn
+
+-- the line from one place to another
+abbrev pub lineAt : List ℕ → ℕ → ℕ → List ℕ
+lineAt register at end = take (end - at) (drop at register)
+
+-- the line at a place that was reached, where it ends, and its number
+pub record Turn (register names triples : List ℕ) (n p next at end number : ℕ) : Type 0 where
+  pub reach : Reached register names triples n p next at
+  pub more : at < length register
+  pub stretch : end ≡ at + lineLength (drop at register)
+  pub bound : end ≤ length register
+  pub judged : number ≡ judgeLine n next (lineAt register at end)
+
+module _ {register names triples : List ℕ} {n p next at end number : ℕ} (t : Turn register names triples n p next at end number) where
+  turn-judged : number ≡ judgeLine (length (t .reach .es)) (nextId (t .reach .es)) (lineAt register at end)
+  turn-judged = t .judged ∙ ap₂ (λ (x y : ℕ). judgeLine x y (lineAt register at end)) (t .reach .tables .count) (t .reach .least)
+
+  -- the place moves on
+  pub turn-less : length register - end < length register - at
+  turn-less =
+      let e = t .stretch in
+      let d = length-drop at register in
+      let some = line-some (drop at register) (omega arith) in
+      omega arith
+
+  pub turn-few : n ≤ mostNames
+  turn-few =
+      let c = t .reach .tables .count in
+      let f = t .reach .tables .fit .few in
+      omega arith
+
+  -- a bad line ends the reading
+  pub turn-bad : (number ≡ 0 → ⊥) → (names₁ triples₁ : List ℕ) → Read register names₁ triples₁ number (n + 1) 0 0
+  turn-bad b names₁ triples₁ =
+      let r = t .reach in
+      let l = lines-at register at end (t .more) (t .stretch) in
+      let f = sym (take-bad (r .es) (lineAt register at end) (linesOf (drop end register)) (λ q. b (turn-judged ∙ q))) ∙ ap (takeLines (r .es)) (sym l) ∙ r .rest in
       record {
-        number = ap (λ (x : Taken). x .number) f;
-        line = ap (λ (x : Taken). x .line) f;
-        tables = λ q. subst (λ (x : Taken). Tables (x .entries) names triples n p) f (r .tables);
+        number = turn-judged ∙ ap (λ (x : Taken). x .number) f;
+        line = ap (λ (x : ℕ). x + 1) (r .tables .count) ∙ ap (λ (x : Taken). x .line) f;
+        tables = λ q. absurd (b q);
       }
 
-  -- the line at the place
-  module _ (end number : ℕ) (more : at < length register) (e : end ≡ at + lineLength (drop at register)) (bound : end ≤ length register)
-      (j : number ≡ judgeLine n next (take (end - at) (drop at register)))
-    where
-      judged : number ≡ judgeLine (length (r .es)) (nextId (r .es)) (take (end - at) (drop at register))
-      judged = j ∙ ap₂ (λ (x y : ℕ). judgeLine x y (take (end - at) (drop at register))) (r .tables .count) (r .least)
+  -- a good line
+  module _ (z : number ≡ 0) where
+    turn-good : judgeLine n (nextId (t .reach .es)) (lineAt register at end) ≡ 0
+    turn-good = ap (λ (y : ℕ). judgeLine n y (lineAt register at end)) (sym (t .reach .least)) ∙ sym (t .judged) ∙ z
 
-      pub reached-good : number ≡ 0 → judgeLine n (nextId (r .es)) (take (end - at) (drop at register)) ≡ 0
-      reached-good z = ap (λ (y : ℕ). judgeLine n y (take (end - at) (drop at register))) (sym (r .least)) ∙ sym j ∙ z
+    pub turn-name : judgeOf (nameOf (lineAt register at end)) ≡ 0
+    turn-name = good-line n next (lineAt register at end) (sym (t .judged) ∙ z) .1
 
-      pub reached-bad : (number ≡ 0 → ⊥) → (names₁ triples₁ : List ℕ) → Read register names₁ triples₁ number (n + 1) 0 0
-      reached-bad b names₁ triples₁ =
-          let l = lines-at register at end more e in
-          let f = sym (take-bad (r .es) (take (end - at) (drop at register)) (linesOf (drop end register)) (λ q. b (judged ∙ q))) ∙ ap (takeLines (r .es)) (sym l) ∙ r .rest in
-          record {
-            number = judged ∙ ap (λ (x : Taken). x .number) f;
-            line = ap (λ (x : ℕ). x + 1) (r .tables .count) ∙ ap (λ (x : Taken). x .line) f;
-            tables = λ q. absurd (b q);
-          }
+    pub turn-id : idIn (lineAt register at end) ≤ largestId
+    turn-id = id-most n next (lineAt register at end) (sym (t .judged) ∙ z)
 
-      pub reached-more : number ≡ 0 → (names₁ triples₁ : List ℕ) (p₁ id₁ : ℕ) → n < length names → p + mostFeatures ≤ length triples
-          → id₁ ≡ idIn (take (end - at) (drop at register))
-          → p₁ ≡ p + length (featuresOf (nameOf (take (end - at) (drop at register))))
-          → names₁ ≡ set names n (idIn (take (end - at) (drop at register)) * 256 + length (featuresOf (nameOf (take (end - at) (drop at register)))))
-          → triples₁
-          ≡ paste triples p (map (λ (f : ℕ). tripleOf (length (featuresOf (nameOf (take (end - at) (drop at register))))) f (idIn (take (end - at) (drop at register)))) (featuresOf (nameOf (take (end - at) (drop at register)))))
-          (length (featuresOf (nameOf (take (end - at) (drop at register)))))
-          → Reached register names₁ triples₁ (n + 1) p₁ (id₁ + 1) end
-      reached-more z names₁ triples₁ p₁ id₁ hn hp ei ep en et =
-          let line = take (end - at) (drop at register) in
-          record {
-            es = r .es ++ (entryOf line ∷ []);
-            tables = tables-snoc (r .es) names triples n p (r .tables) line (reached-good z) names₁ triples₁ p₁ hn hp ep en et;
-            least = ap (λ (x : ℕ). x + 1) ei ∙ sym (next-snoc 0 (r .es) (entryOf line));
-            rest = sym (take-good (r .es) line (linesOf (drop end register)) (sym judged ∙ z)) ∙ ap (takeLines (r .es)) (sym (lines-at register at end more e)) ∙ r .rest;
-            within = bound;
-          }
+    pub turn-room : (n < mostNames) × (p + mostFeatures ≤ mostPostings)
+    turn-room = tables-room (t .reach .es) names triples n p (t .reach .tables) (lineAt register at end) turn-good
+
+    pub turn-more : (names₁ triples₁ : List ℕ) (p₁ id₁ : ℕ) → n < length names → p + mostFeatures ≤ length triples
+        → id₁ ≡ idIn (lineAt register at end)
+        → p₁ ≡ p + length (featuresOf (nameOf (lineAt register at end)))
+        → names₁ ≡ set names n (idIn (lineAt register at end) * 256 + length (featuresOf (nameOf (lineAt register at end))))
+        → triples₁
+        ≡ paste triples p (map (λ (f : ℕ). tripleOf (length (featuresOf (nameOf (lineAt register at end)))) f (idIn (lineAt register at end))) (featuresOf (nameOf (lineAt register at end))))
+        (length (featuresOf (nameOf (lineAt register at end))))
+        → Reached register names₁ triples₁ (n + 1) p₁ (id₁ + 1) end
+    turn-more names₁ triples₁ p₁ id₁ hn hp ei ep en et =
+        let r = t .reach in
+        let line = lineAt register at end in
+        record {
+          es = r .es ++ (entryOf line ∷ []);
+          tables = tables-snoc (r .es) names triples n p (r .tables) line turn-good names₁ triples₁ p₁ hn hp ep en et;
+          least = ap (λ (x : ℕ). x + 1) ei ∙ sym (next-snoc 0 (r .es) (entryOf line));
+          rest = sym (take-good (r .es) line (linesOf (drop end register)) (sym turn-judged ∙ z)) ∙ ap (takeLines (r .es)) (sym (lines-at register at end (t .more) (t .stretch))) ∙ r .rest;
+          within = t .bound;
+        }

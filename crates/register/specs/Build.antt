@@ -2,9 +2,9 @@
 -- The order in which a line is judged is `judgeLine` alone: a test more is a line more there.
 -- Assumes nothing.
 use mathlib.Core.Bool.{Bool, cond, not}
-use mathlib.Core.List.{List, [], _∷_, _++_}
+use mathlib.Core.List.{List, [], _∷_, _++_, map}
 use Prim.Native.Nat.{ℕ, _+_, _-_}
-use lib.ListN.{length, getD, replicate}
+use lib.ListN.{length, getD, take, replicate}
 use lib.Dec.{eqb, leb, ltb}
 use Rattle.names.specs.Names.{judgeOf}
 use Rattle.names.specs.Features.{featuresOf}
@@ -12,7 +12,7 @@ use Rattle.frames.specs.Layouts.{isFrame, fieldsIn, nameIn}
 use Rattle.frames.specs.Frames.{nameFrame}
 use Rattle.index.specs.Good.{mostNames}
 use Rattle.postings.specs.Built.{Entry, wordsOf}
-use Rattle.register.specs.Lines.{linesOf}
+use Rattle.register.specs.Lines.{linesOf, nthLine}
 use Rattle.register.specs.declared.Built.{Built}
 
 -- ---- one line
@@ -65,6 +65,10 @@ takeLines es (l ∷ ls) =
 
 unfoldable pub takenOf : List ℕ → Taken
 takenOf register = takeLines [] (linesOf register)
+
+-- the number of line i, from 0, judged behind the names of the lines before it
+abbrev pub judgeNth : List ℕ → ℕ → ℕ
+judgeNth register i = judgeLine i (nextId (map entryOf (take i (linesOf register)))) (nthLine register i)
 
 -- the names of a register; none where a line is bad
 abbrev pub entriesOf : List ℕ → List Entry

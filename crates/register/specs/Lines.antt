@@ -3,6 +3,7 @@
 use mathlib.Core.Bool.{cond}
 use mathlib.Core.List.{List, [], _∷_}
 use Prim.Native.Nat.{ℕ, _+_}
+use lib.ListN.{getD}
 use lib.Dec.{eqb}
 
 abbrev pub lineFeed : ℕ
@@ -22,3 +23,7 @@ linesOf (b ∷ s) = let ls = linesOf s in cond (eqb b lineFeed) ((b ∷ []) ∷ 
 unfoldable pub lineLength : List ℕ → ℕ
 lineLength [] = 0
 lineLength (b ∷ s) = let n = lineLength s in 1 + cond (eqb b lineFeed) 0 n
+
+-- line i, counted from 0; no bytes where there are not so many
+abbrev pub nthLine : List ℕ → ℕ → List ℕ
+nthLine register i = getD (linesOf register) i []

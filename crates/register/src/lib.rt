@@ -131,9 +131,10 @@ fn take_lines(register: &[u8], name: &mut [u8], names: &mut [u32], triples: &mut
         let end = line_end(register, at);
         let line = judge_line(&register[at..end], name, n, next);
         if line.number != 0 {
+            let place = n as u32 + 1;
             return Taken {
                 number: line.number,
-                line: n as u32 + 1,
+                line: place,
                 names: 0,
                 postings: 0,
             };
@@ -159,7 +160,7 @@ fn take_lines(register: &[u8], name: &mut [u8], names: &mut [u32], triples: &mut
 pub fn fill(words: &mut [u32])
     ensures { λ r. ⌜ now (words .exit) ≡ replicate (length (now (words .entry))) blank ⌝ }
 {
-    let mut i = 0;
+    let mut i: usize = 0;
     while i < words.len() {
         words[i] = 4294967295;
         i += 1;
@@ -294,7 +295,8 @@ fn finish(names: &[u32], keys: &[u64], words: &mut [u32]) -> bool
 {
     let d = count_rows(keys);
     let total = 3 + names.len() + 4 * d + keys.len();
-    if words.len() < total {
+    let room = words.len();
+    if room < total {
         fill(words);
         return false;
     }

@@ -7,7 +7,7 @@ use mathlib.Core.Logic.{_↔_}
 use mathlib.Core.Bool.{Bool, true, false, cond, not}
 use mathlib.Core.List.{List, [], _∷_, map}
 use Prim.Native.Nat.{ℕ, _+_, _-_, _*_, _≤_, _<_}
-use lib.ListN.{length, getD, take, drop}
+use lib.ListN.{length, getD, take, drop, replicate}
 use lib.Dec.{eqb, leb, ltb}
 use Rattle.laws.specs.Lists.{member, Ascending, countOf, sumOf}
 use Rattle.laws.specs.Filter.{filterOf}
@@ -19,8 +19,11 @@ use Rattle.likeness.specs.Least.{leastCount}
 use Rattle.likeness.specs.Fractions.{FractionLe, numerator, denominator, raised}
 use Rattle.likeness.specs.Terms.{lowestTerms}
 use Rattle.index.specs.Words.{nameCount, nameId, nameSize}
-use Rattle.index.specs.Good.{goodOf}
+use Rattle.index.specs.Good.{goodOf, Good}
+use Rattle.postings.specs.Built.{wordsOf}
 use Rattle.index.specs.Lists.{listIn, featuresIn}
+use Rattle.register.specs.Lines.{linesOf, nthLine}
+use Rattle.register.specs.Build.{idIn, nameOf, entryOf, judgeNth, builtOf, wordsAfter}
 use Rattle.search.specs.Method.{namesOf, listsFor, signatures, signaturePostings, remaining, touchesOfSize, touchesOf, answersOf}
 use Rattle.search.specs.Answers.{numberIn, rowsIn, touchesIn, thresholdP, thresholdQ, searchOf, givenBy, roomOf, over, idColumn, sharedColumn, sizeColumn}
 use Rattle.search.specs.declared.Answer.{Answer}
@@ -241,3 +244,69 @@ Fractions a = (p q : ℕ) → 1 ≤ a .p → a .p ≤ a .q → a .q ≤ 1000 →
     × (idsAfter (withThreshold p q a) ≡ idsAfter a)
     × (sharedAfter (withThreshold p q a) ≡ sharedAfter a)
     × (sizesAfter (withThreshold p q a) ≡ sizesAfter a)
+
+-- ---- a build
+
+-- an accepted build
+abbrev pub Accepted : List ℕ → List ℕ → Type 0
+Accepted register words = builtOf register (length words) .number ≡ 0
+
+-- the same question, asked of the words that a build leaves
+abbrev pub ofBuilt : List ℕ → List ℕ → Question → Question
+ofBuilt register words a =
+    record {
+      query = a .query;
+      measure = a .measure;
+      p = a .p;
+      q = a .q;
+      allowance = a .allowance;
+      words = wordsAfter register words;
+      ids = a .ids;
+      shared = a .shared;
+      sizes = a .sizes;
+    }
+
+-- line i of the register, from 0, is judged behind the lines before it: 11, 1, 2, 3, 9, 10 in that order, or 0
+pub record Building (register words : List ℕ) : Type 0 where
+  -- the first bad line decides: its number, and its place counted from 1
+  pub bad-line : (i : ℕ) → i < length (linesOf register) → ((j : ℕ) → j < i → judgeNth register j ≡ 0) → (judgeNth register i ≡ 0 → ⊥)
+      → builtOf register (length words) ≡ record { number = judgeNth register i; line = i + 1 }
+  -- without one it is 8 and line 0 where the index does not fit, and otherwise 0 and 0
+  pub no-room : ((j : ℕ) → j < length (linesOf register) → judgeNth register j ≡ 0) → length words < length (wordsOf (map entryOf (linesOf register)))
+      → builtOf register (length words) ≡ record { number = 8; line = 0 }
+  pub room : ((j : ℕ) → j < length (linesOf register) → judgeNth register j ≡ 0) → length (wordsOf (map entryOf (linesOf register))) ≤ length words
+      → builtOf register (length words) ≡ record { number = 0; line = 0 }
+  -- accepted words are a good index, with a name for each line: its id, its size, and its own features
+  pub good : Accepted register words → Good (wordsAfter register words)
+  pub count : Accepted register words → nameCount (wordsAfter register words) ≡ length (linesOf register)
+  pub id : Accepted register words → (i : ℕ) → i < length (linesOf register) → nameId (wordsAfter register words) i ≡ idIn (nthLine register i)
+  pub size : Accepted register words → (i : ℕ) → i < length (linesOf register)
+      → nameSize (wordsAfter register words) i ≡ length (featuresOf (nameOf (nthLine register i)))
+  pub features : Accepted register words → (i f : ℕ) → i < length (linesOf register)
+      → member f (featuresIn (wordsAfter register words) (idIn (nthLine register i))) ≡ member f (featuresOf (nameOf (nthLine register i)))
+  -- a refused build sets every word, and every search of those words is refused, with a number before 7
+  pub every-word : (Accepted register words → ⊥) → wordsAfter register words ≡ replicate (length words) 4294967295
+  pub refused : (Accepted register words → ⊥) → (a : Question) → (1 ≤ number (ofBuilt register words a)) × (number (ofBuilt register words a) ≤ 6)
+
+-- ---- end to end
+
+-- how many of the query's features the name of line i has
+abbrev pub sharedWithLine : List ℕ → Question → ℕ → ℕ
+sharedWithLine register a i = sharedOf (featuresOf (a .query)) (featuresOf (nameOf (nthLine register i)))
+
+-- an answered search of a register's index: listed are exactly the register's names that are similar by their own features
+pub record EndToEnd (register words : List ℕ) (a : Question) : Type 0 where
+  pub exactly : (i : ℕ) → i < length (linesOf register)
+      → (member (idIn (nthLine register i)) (rowIds (ofBuilt register words a)) ≡ true)
+      ↔ Reaches a (length (featuresOf (a .query))) (length (featuresOf (nameOf (nthLine register i)))) (sharedWithLine register a i)
+  pub true-rows : (j : ℕ) → j < rowsIn (answer (ofBuilt register words a))
+      → (i : ℕ)
+      × (i < length (linesOf register))
+      × (getD (idsAfter (ofBuilt register words a)) j 0 ≡ idIn (nthLine register i))
+      × (getD (sharedAfter (ofBuilt register words a)) j 0 ≡ sharedWithLine register a i)
+      × (getD (sizesAfter (ofBuilt register words a)) j 0 ≡ length (featuresOf (nameOf (nthLine register i))))
+  pub ascending : Ascending (rowIds (ofBuilt register words a))
+  -- equal names under two ids are listed both or neither
+  pub twins : (i j : ℕ) → i < length (linesOf register) → j < length (linesOf register) → nameOf (nthLine register i) ≡ nameOf (nthLine register j)
+      → (member (idIn (nthLine register i)) (rowIds (ofBuilt register words a)) ≡ true)
+      ↔ (member (idIn (nthLine register j)) (rowIds (ofBuilt register words a)) ≡ true)

@@ -8,7 +8,7 @@ pub mod queries;
 pub mod registers;
 pub mod words;
 
-use crate::protocol::Kind;
+use crate::protocol::{spaced, Kind};
 use crate::random::Random;
 
 /// The input number `at` of a kind under a seed: for `lookup` a whole input, for the others one line of the protocol.
@@ -23,6 +23,10 @@ pub fn input(kind: Kind, seed: u64, at: u64) -> Vec<u8> {
         Kind::Build => cases::build,
         Kind::Search => cases::search,
         Kind::Frames => cases::frames,
+        Kind::Sweep => {
+            let mut of_index = Random::of(seed, kind as u64, at / words::STRETCH);
+            return [spaced(&words::swept(&mut of_index, at % words::STRETCH)).into_bytes(), b"\n".to_vec()].concat();
+        }
     };
     let mut line = make(&mut random).into_bytes();
     line.push(b'\n');

@@ -2,7 +2,7 @@
 
 use std::collections::BTreeSet;
 
-use crate::build::{words_of, words_of_names};
+use crate::build::{words_of, words_of_names, Registered};
 use crate::features::features;
 use crate::generate::registers;
 use crate::index::cut;
@@ -102,6 +102,35 @@ pub fn any(random: &mut Random, known: &[u8], damaged_of_ten: usize) -> Vec<u32>
         let beyond = random.between(1, 6);
         words.extend((0..beyond).map(|_| random.pick(&[0, 1, u32::MAX, 0xA5A5_A5A5])));
     }
+    words
+}
+
+/// How many inputs of a sweep have one index: enough for eight changes to each of its words.
+pub const STRETCH: u64 = 1024;
+
+/// A small good index with one of its words changed: word after word, and then each once more in the next way.
+pub fn swept(random: &mut Random, at: u64) -> Vec<u32> {
+    let count = random.between(1, 4);
+    let mut words = if random.once_in(2) {
+        words_of(&made_up(random, count, &[3, 4, 5], &[]))
+    } else {
+        let short = |random: &mut Random| (0..random.between(1, 3)).map(|_| random.pick(b"ABC\xFF")).collect();
+        let names = registers::ids(random, count).into_iter().map(|id| Registered { id, name: short(random) });
+        words_of_names(&names.collect::<Vec<_>>())
+    };
+    let (way, place) = (at as usize / words.len(), at as usize % words.len());
+    let word = words[place];
+    words[place] = match way {
+        0 => word.wrapping_add(1),
+        1 => word.wrapping_sub(1),
+        2 => 0,
+        3 => u32::MAX,
+        4 => word.wrapping_add(256),
+        5 => word ^ (1 << 31),
+        6 => words[(place + 1) % words.len()],
+        7 => word,
+        _ => word ^ (1 << (way % 32)),
+    };
     words
 }
 

@@ -1,18 +1,17 @@
--- `build_with` meets its contract: the first bad line decides, then the room.
-use mathlib.Core.Path.{_≡_, refl, sym, ap, ap₂, _∙_}
+-- `build_with` meets its contract: the first bad line decides, then the room. Of each place of the code, what later places need is said once.
+use mathlib.Core.Path.{_≡_, sym, ap, _∙_}
 use mathlib.Core.Bool.{Bool, cond}
 use mathlib.Core.List.{List, _++_}
-use Prim.Native.Nat.{ℕ, _+_, _*_, _%_, _≤_, _<_, _-_}
+use Prim.Native.Nat.{ℕ}
 use native.Mathlib.Omega.{arith}
 use borrow.Author.Needs.{needs}
 use lib.Dec.{leb}
 use lib.ListN.{length, take, drop, replicate, length-append}
 use lib.Seq.{length-take-le, take-at}
 use Rattle.laws.specs.Sort.{sortOf}
-use Rattle.postings.specs.Built.{runsOf, wordsFrom}
-use Rattle.postings.proofs.Built.{few-postings}
+use Rattle.postings.specs.Built.{runsOf, wordsFrom, wordsOf}
 use Rattle.register.specs.Build.{entriesOf, blank, padTo}
-use Rattle.register.proofs.Ending.{built-bad, built-over, built-in, words-of}
+use Rattle.register.proofs.Ending.{Held, held, built-bad, built-over, built-in, words-of}
 use Rattle.register.proofs.build_with.Statement.{statement}
 use Rattle.register.proofs.build_with.Tie as tie
 
@@ -41,240 +40,84 @@ returns c =
     let r = built-bad (b .args .register .now) (b .args .words .now) (λ q. c .before .before .before .before .if1 .taken (h .number ∙ q)) in
     ((λ i. record { number = h .number i; line = h .line i }) ∙ r .0, c .before .before .fill .ensures ∙ r .1)
 
-slice-relend-prefix-sort : tie.Need-slice-relend-prefix-sort
-slice-relend-prefix-sort c =
-    let b = c .before .before .before .before .before .before .before .before .before .before .before .before .before .before .before .before .before in
+-- the tables, where all lines are good
+tables : (c : tie.Else1)
+    → let x = c .before .before .before .before .before .before .before .take-lines in let a = c .before .before .before .before .before .before .before .before .before .before .before .before .before .before .before .before .before .args in Held (entriesOf (a .register .now)) (x .last .1 .1 .0) (x .last .1 .1 .1 .0) (a .spare .now) (x .result .names) (x .result .postings)
+tables c =
     let x = c .before .before .before .before .before .before .before .take-lines in
-    let z = c .if1 .left in
-    let t = x .ensures .tables z in
-    let n = x .result .names in
-    let p = x .result .postings in
-    let names = x .last .1 .1 .0 in
-    let triples = x .last .1 .1 .1 .0 in
-    let p1 = x .kept .1 .1 .0 ∙ b .pre .1 in
-    let p2 = x .kept .1 .1 .1 .0 ∙ b .pre .2 in
-    let p3 = b .pre .3 in
-    let tc = t .count in
-    let ts = t .sum in
-    let tf = t .fit .few in
-    let tp = few-postings (entriesOf (b .args .register .now)) (t .fit) in
-    let lt = length-take-le p triples (omega arith) in
-    let ls = length-take-le p (b .args .spare .now) (omega arith) in
-    let ln = length-take-le n names (omega arith) in
-    omega arith
+    let b = c .before .before .before .before .before .before .before .before .before .before .before .before .before .before .before .before .before in
+    held (x .ensures .tables (c .if1 .left)) (b .args .spare .now) (x .kept .1 .1 .0 ∙ b .pre .1) (x .kept .1 .1 .1 .0 ∙ b .pre .2) (b .pre .3)
+
+-- the names, the postings and the spare have the lengths that are asked for
+names-part : (c : tie.Else1) → let x = c .before .before .before .before .before .before .before .take-lines in length (take (x .result .names) (x .last .1 .1 .0)) ≡ x .result .names
+names-part c = let x = c .before .before .before .before .before .before .before .take-lines in length-take-le (x .result .names) (x .last .1 .1 .0) (tables c .names-within)
+
+postings-part : (c : tie.Else1) → let x = c .before .before .before .before .before .before .before .take-lines in length (take (x .result .postings) (x .last .1 .1 .1 .0)) ≡ x .result .postings
+postings-part c = let x = c .before .before .before .before .before .before .before .take-lines in length-take-le (x .result .postings) (x .last .1 .1 .1 .0) (tables c .triples-within)
+
+spare-part : (c : tie.Else1) → length (take (c .before .before .before .before .before .before .before .take-lines .result .postings) (c .before .before .before .before .before .before .before .before .before .before .before .before .before .before .before .before .before .args .spare .now)) ≡ c .before .before .before .before .before .before .before .take-lines .result .postings
+spare-part c = length-take-le (c .before .before .before .before .before .before .before .take-lines .result .postings) (c .before .before .before .before .before .before .before .before .before .before .before .before .before .before .before .before .before .args .spare .now) (tables c .spare-within)
+
+slice-relend-prefix-sort : tie.Need-slice-relend-prefix-sort
+slice-relend-prefix-sort c = tables c .triples-within
 
 slice-aggregate-sort : tie.Need-slice-aggregate-sort
-slice-aggregate-sort c =
-    let b = c .before .before .before .before .before .before .before .before .before .before .before .before .before .before .before .before .before .before in
-    let x = c .before .before .before .before .before .before .before .before .take-lines in
-    let z = c .before .if1 .left in
-    let t = x .ensures .tables z in
-    let n = x .result .names in
-    let p = x .result .postings in
-    let names = x .last .1 .1 .0 in
-    let triples = x .last .1 .1 .1 .0 in
-    let p1 = x .kept .1 .1 .0 ∙ b .pre .1 in
-    let p2 = x .kept .1 .1 .1 .0 ∙ b .pre .2 in
-    let p3 = b .pre .3 in
-    let tc = t .count in
-    let ts = t .sum in
-    let tf = t .fit .few in
-    let tp = few-postings (entriesOf (b .args .register .now)) (t .fit) in
-    let lt = length-take-le p triples (omega arith) in
-    let ls = length-take-le p (b .args .spare .now) (omega arith) in
-    let ln = length-take-le n names (omega arith) in
-    sym lt
+slice-aggregate-sort c = sym (postings-part (c .before))
 
 slice-relend-prefix-sort-2 : tie.Need-slice-relend-prefix-sort-2
-slice-relend-prefix-sort-2 c =
-    let b = c .before .before .before .before .before .before .before .before .before .before .before .before .before .before .before .before .before .before in
-    let x = c .before .before .before .before .before .before .before .before .take-lines in
-    let z = c .before .if1 .left in
-    let t = x .ensures .tables z in
-    let n = x .result .names in
-    let p = x .result .postings in
-    let names = x .last .1 .1 .0 in
-    let triples = x .last .1 .1 .1 .0 in
-    let p1 = x .kept .1 .1 .0 ∙ b .pre .1 in
-    let p2 = x .kept .1 .1 .1 .0 ∙ b .pre .2 in
-    let p3 = b .pre .3 in
-    let tc = t .count in
-    let ts = t .sum in
-    let tf = t .fit .few in
-    let tp = few-postings (entriesOf (b .args .register .now)) (t .fit) in
-    let lt = length-take-le p triples (omega arith) in
-    let ls = length-take-le p (b .args .spare .now) (omega arith) in
-    let ln = length-take-le n names (omega arith) in
-    omega arith
+slice-relend-prefix-sort-2 c = tables (c .before) .spare-within
 
 slice-aggregate-sort-2 : tie.Need-slice-aggregate-sort-2
-slice-aggregate-sort-2 c =
-    let b = c .before .before .before .before .before .before .before .before .before .before .before .before .before .before .before .before .before .before .before in
-    let x = c .before .before .before .before .before .before .before .before .before .take-lines in
-    let z = c .before .before .if1 .left in
-    let t = x .ensures .tables z in
-    let n = x .result .names in
-    let p = x .result .postings in
-    let names = x .last .1 .1 .0 in
-    let triples = x .last .1 .1 .1 .0 in
-    let p1 = x .kept .1 .1 .0 ∙ b .pre .1 in
-    let p2 = x .kept .1 .1 .1 .0 ∙ b .pre .2 in
-    let p3 = b .pre .3 in
-    let tc = t .count in
-    let ts = t .sum in
-    let tf = t .fit .few in
-    let tp = few-postings (entriesOf (b .args .register .now)) (t .fit) in
-    let lt = length-take-le p triples (omega arith) in
-    let ls = length-take-le p (b .args .spare .now) (omega arith) in
-    let ln = length-take-le n names (omega arith) in
-    sym ls
+slice-aggregate-sort-2 c = sym (spare-part (c .before .before))
 
 sort-requires : tie.Need-sort-requires
-sort-requires c κs =
-    let b = c .before .before .before .before .before .before .before .before .before .before .before .before .before .before .before .before .before .before .before in
-    let x = c .before .before .before .before .before .before .before .before .before .take-lines in
-    let z = c .before .before .if1 .left in
-    let t = x .ensures .tables z in
-    let n = x .result .names in
-    let p = x .result .postings in
-    let names = x .last .1 .1 .0 in
-    let triples = x .last .1 .1 .1 .0 in
-    let p1 = x .kept .1 .1 .0 ∙ b .pre .1 in
-    let p2 = x .kept .1 .1 .1 .0 ∙ b .pre .2 in
-    let p3 = b .pre .3 in
-    let tc = t .count in
-    let ts = t .sum in
-    let tf = t .fit .few in
-    let tp = few-postings (entriesOf (b .args .register .now)) (t .fit) in
-    let lt = length-take-le p triples (omega arith) in
-    let ls = length-take-le p (b .args .spare .now) (omega arith) in
-    let ln = length-take-le n names (omega arith) in
-    ls ∙ sym lt
+sort-requires c κs = spare-part (c .before .before) ∙ sym (postings-part (c .before .before))
+
+-- the postings in order, where they were sorted
+sorted : (c : tie.After-sort)
+    → let x = c .before .before .before .before .before .before .before .before .before .before .take-lines in take (x .result .postings) (c .sort .last .0 ++ drop (x .result .postings) (x .last .1 .1 .1 .0)) ≡ c .sort .last .0
+sorted c =
+    let x = c .before .before .before .before .before .before .before .before .before .before .take-lines in
+    take-at (c .sort .last .0) (drop (x .result .postings) (x .last .1 .1 .1 .0)) (x .result .postings) (c .sort .kept .0 ∙ postings-part (c .before .before .before))
+
+sorted-part : (c : tie.After-sort)
+    → let x = c .before .before .before .before .before .before .before .before .before .before .take-lines in length (take (x .result .postings) (c .sort .last .0 ++ drop (x .result .postings) (x .last .1 .1 .1 .0))) ≡ x .result .postings
+sorted-part c = ap length (sorted c) ∙ c .sort .kept .0 ∙ postings-part (c .before .before .before)
 
 slice-reshare-prefix-finish : tie.Need-slice-reshare-prefix-finish
-slice-reshare-prefix-finish c =
-    let b = c .before .before .before .before .before .before .before .before .before .before .before .before .before .before .before .before .before .before .before .before .before .before .before .before in
-    let x = c .before .before .before .before .before .before .before .before .before .before .before .before .before .before .take-lines in
-    let z = c .before .before .before .before .before .before .before .if1 .left in
-    let t = x .ensures .tables z in
-    let n = x .result .names in
-    let p = x .result .postings in
-    let names = x .last .1 .1 .0 in
-    let triples = x .last .1 .1 .1 .0 in
-    let p1 = x .kept .1 .1 .0 ∙ b .pre .1 in
-    let p2 = x .kept .1 .1 .1 .0 ∙ b .pre .2 in
-    let p3 = b .pre .3 in
-    let tc = t .count in
-    let ts = t .sum in
-    let tf = t .fit .few in
-    let tp = few-postings (entriesOf (b .args .register .now)) (t .fit) in
-    let lt = length-take-le p triples (omega arith) in
-    let ls = length-take-le p (b .args .spare .now) (omega arith) in
-    let ln = length-take-le n names (omega arith) in
-    omega arith
+slice-reshare-prefix-finish c = tables (c .before .before .before .before .before .before .before) .names-within
 
 slice-aggregate-finish : tie.Need-slice-aggregate-finish
-slice-aggregate-finish c =
-    let b = c .before .before .before .before .before .before .before .before .before .before .before .before .before .before .before .before .before .before .before .before .before .before .before .before .before in
-    let x = c .before .before .before .before .before .before .before .before .before .before .before .before .before .before .before .take-lines in
-    let z = c .before .before .before .before .before .before .before .before .if1 .left in
-    let t = x .ensures .tables z in
-    let n = x .result .names in
-    let p = x .result .postings in
-    let names = x .last .1 .1 .0 in
-    let triples = x .last .1 .1 .1 .0 in
-    let p1 = x .kept .1 .1 .0 ∙ b .pre .1 in
-    let p2 = x .kept .1 .1 .1 .0 ∙ b .pre .2 in
-    let p3 = b .pre .3 in
-    let tc = t .count in
-    let ts = t .sum in
-    let tf = t .fit .few in
-    let tp = few-postings (entriesOf (b .args .register .now)) (t .fit) in
-    let lt = length-take-le p triples (omega arith) in
-    let ls = length-take-le p (b .args .spare .now) (omega arith) in
-    let ln = length-take-le n names (omega arith) in
-    sym ln
+slice-aggregate-finish c = sym (names-part (c .before .before .before .before .before .before .before .before))
 
 slice-reshare-prefix-finish-2 : tie.Need-slice-reshare-prefix-finish-2
 slice-reshare-prefix-finish-2 c =
-    let b = c .before .before .before .before .before .before .before .before .before .before .before .before .before .before .before .before .before .before .before .before .before .before .before .before .before in
     let x = c .before .before .before .before .before .before .before .before .before .before .before .before .before .before .before .take-lines in
-    let z = c .before .before .before .before .before .before .before .before .if1 .left in
-    let t = x .ensures .tables z in
-    let n = x .result .names in
-    let p = x .result .postings in
-    let names = x .last .1 .1 .0 in
-    let triples = x .last .1 .1 .1 .0 in
-    let p1 = x .kept .1 .1 .0 ∙ b .pre .1 in
-    let p2 = x .kept .1 .1 .1 .0 ∙ b .pre .2 in
-    let p3 = b .pre .3 in
-    let tc = t .count in
-    let ts = t .sum in
-    let tf = t .fit .few in
-    let tp = few-postings (entriesOf (b .args .register .now)) (t .fit) in
-    let lt = length-take-le p triples (omega arith) in
-    let ls = length-take-le p (b .args .spare .now) (omega arith) in
-    let ln = length-take-le n names (omega arith) in
-    let srt = c .before .before .before .before .before .sort .last .0 in
-    let lr : length srt ≡ p = c .before .before .before .before .before .sort .kept .0 ∙ lt in
-    let la = length-append srt (drop p triples) in
-    let ta = take-at srt (drop p triples) p lr in
-    let tl = ap length ta in
+    let s = c .before .before .before .before .before .sort in
+    let a = length-append (s .last .0) (drop (x .result .postings) (x .last .1 .1 .1 .0)) in
+    let k = s .kept .0 ∙ postings-part (c .before .before .before .before .before .before .before .before) in
     omega arith
 
 slice-aggregate-finish-2 : tie.Need-slice-aggregate-finish-2
-slice-aggregate-finish-2 c =
-    let b = c .before .before .before .before .before .before .before .before .before .before .before .before .before .before .before .before .before .before .before .before .before .before .before .before .before .before in
-    let x = c .before .before .before .before .before .before .before .before .before .before .before .before .before .before .before .before .take-lines in
-    let z = c .before .before .before .before .before .before .before .before .before .if1 .left in
-    let t = x .ensures .tables z in
-    let n = x .result .names in
-    let p = x .result .postings in
-    let names = x .last .1 .1 .0 in
-    let triples = x .last .1 .1 .1 .0 in
-    let p1 = x .kept .1 .1 .0 ∙ b .pre .1 in
-    let p2 = x .kept .1 .1 .1 .0 ∙ b .pre .2 in
-    let p3 = b .pre .3 in
-    let tc = t .count in
-    let ts = t .sum in
-    let tf = t .fit .few in
-    let tp = few-postings (entriesOf (b .args .register .now)) (t .fit) in
-    let lt = length-take-le p triples (omega arith) in
-    let ls = length-take-le p (b .args .spare .now) (omega arith) in
-    let ln = length-take-le n names (omega arith) in
-    let srt = c .before .before .before .before .before .before .sort .last .0 in
-    let lr : length srt ≡ p = c .before .before .before .before .before .before .sort .kept .0 ∙ lt in
-    let la = length-append srt (drop p triples) in
-    let ta = take-at srt (drop p triples) p lr in
-    let tl = ap length ta in
-    sym (tl ∙ lr)
+slice-aggregate-finish-2 c = sym (sorted-part (c .before .before .before .before .before .before))
 
 finish-requires : tie.Need-finish-requires
 finish-requires c κs =
-    let b = c .before .before .before .before .before .before .before .before .before .before .before .before .before .before .before .before .before .before .before .before .before .before .before .before .before .before .before in
-    let x = c .before .before .before .before .before .before .before .before .before .before .before .before .before .before .before .before .before .take-lines in
-    let z = c .before .before .before .before .before .before .before .before .before .before .if1 .left in
-    let t = x .ensures .tables z in
-    let n = x .result .names in
-    let p = x .result .postings in
-    let names = x .last .1 .1 .0 in
-    let triples = x .last .1 .1 .1 .0 in
-    let p1 = x .kept .1 .1 .0 ∙ b .pre .1 in
-    let p2 = x .kept .1 .1 .1 .0 ∙ b .pre .2 in
-    let p3 = b .pre .3 in
-    let tc = t .count in
-    let ts = t .sum in
-    let tf = t .fit .few in
-    let tp = few-postings (entriesOf (b .args .register .now)) (t .fit) in
-    let lt = length-take-le p triples (omega arith) in
-    let ls = length-take-le p (b .args .spare .now) (omega arith) in
-    let ln = length-take-le n names (omega arith) in
-    let srt = c .before .before .before .before .before .before .before .sort .last .0 in
-    let lr : length srt ≡ p = c .before .before .before .before .before .before .before .sort .kept .0 ∙ lt in
-    let la = length-append srt (drop p triples) in
-    let ta = take-at srt (drop p triples) p lr in
-    let tl = ap length ta in
+    let t = tables (c .before .before .before .before .before .before .before .before .before .before) in
+    let n = names-part (c .before .before .before .before .before .before .before .before .before .before) in
+    let p = sorted-part (c .before .before .before .before .before .before .before) in
+    let few = t .few in
+    let most = t .most in
     (omega arith, omega arith)
+
+-- the words of the index, from the names and the postings in order
+indexed : (c : tie.After-sort)
+    → let x = c .before .before .before .before .before .before .before .before .before .before .take-lines in wordsFrom (take (x .result .names) (x .last .1 .1 .0)) (runsOf (take (x .result .postings) (c .sort .last .0 ++ drop (x .result .postings) (x .last .1 .1 .1 .0)))) ≡ wordsOf (entriesOf (c .before .before .before .before .before .before .before .before .before .before .before .before .before .before .before .before .before .before .before .before .args .register .now))
+indexed c =
+    let x = c .before .before .before .before .before .before .before .before .before .before .take-lines in
+    let t = tables (c .before .before .before) .tables in
+    let p = x .result .postings in
+    words-of (entriesOf (c .before .before .before .before .before .before .before .before .before .before .before .before .before .before .before .before .before .before .before .before .args .register .now)) (take (x .result .names) (x .last .1 .1 .0)) (take p (c .sort .last .0 ++ drop p (x .last .1 .1 .1 .0))) (t .words) (sorted c ∙ c .sort .ensures ∙ ap sortOf (t .postings))
 
 same-length-5 : tie.Need-same-length-5
 same-length-5 c = search needs
@@ -293,39 +136,16 @@ same-length-9 c = search needs
 
 returns-2 : tie.Need-returns-2
 returns-2 c =
-    let b = c .before .before .before .before .before .before .before .before .before .before .before .before .before .before .before .before .before .before .before .before .before .before .before .before .before .before .before .before .before .before .before in
+    let a = c .before .before .before .before .before .before .before .before .before .before .before .before .before .before .before .before .before .before .before .before .before .before .before .before .before .before .before .before .before .before .before .args in
     let x = c .before .before .before .before .before .before .before .before .before .before .before .before .before .before .before .before .before .before .before .before .before .take-lines in
-    let z = c .before .before .before .before .before .before .before .before .before .before .before .before .before .before .if1 .left in
-    let t = x .ensures .tables z in
-    let n = x .result .names in
-    let p = x .result .postings in
-    let names = x .last .1 .1 .0 in
-    let triples = x .last .1 .1 .1 .0 in
-    let p1 = x .kept .1 .1 .0 ∙ b .pre .1 in
-    let p2 = x .kept .1 .1 .1 .0 ∙ b .pre .2 in
-    let p3 = b .pre .3 in
-    let tc = t .count in
-    let ts = t .sum in
-    let tf = t .fit .few in
-    let tp = few-postings (entriesOf (b .args .register .now)) (t .fit) in
-    let lt = length-take-le p triples (omega arith) in
-    let ls = length-take-le p (b .args .spare .now) (omega arith) in
-    let ln = length-take-le n names (omega arith) in
-    let srt = c .before .before .before .before .before .before .before .before .before .before .before .sort .last .0 in
-    let lr : length srt ≡ p = c .before .before .before .before .before .before .before .before .before .before .before .sort .kept .0 ∙ lt in
-    let la = length-append srt (drop p triples) in
-    let ta = take-at srt (drop p triples) p lr in
-    let tl = ap length ta in
     let y = c .before .before .before .finish .ensures in
-    let w = b .args .words .now in
-    let es = entriesOf (b .args .register .now) in
-    let ks = take p (srt ++ drop p triples) in
-    let wf = words-of es (take n names) ks (t .words) (ta ∙ c .before .before .before .before .before .before .before .before .before .before .before .sort .ensures ∙ ap sortOf (t .postings)) in
-    let z0 = sym (x .ensures .number) ∙ z in
+    let w = a .words .now in
+    let wf = indexed (c .before .before .before .before .before .before .before .before .before .before .before) in
+    let ks = take (x .result .postings) (c .before .before .before .before .before .before .before .before .before .before .before .sort .last .0 ++ drop (x .result .postings) (x .last .1 .1 .1 .0)) in
     let g = c .if2 .taken in
-    let r = built-in (b .args .register .now) w z0 (ap (λ (l : List ℕ). leb (length l) (length w)) (sym wf) ∙ sym (y .fits) ∙ g) in (
+    let r = built-in (a .register .now) w (sym (x .ensures .number) ∙ c .before .before .before .before .before .before .before .before .before .before .before .before .before .before .if1 .left) (ap (λ (l : List ℕ). leb (length l) (length w)) (sym wf) ∙ sym (y .fits) ∙ g) in (
       r .0,
-      y .words ∙ ap (λ (q : Bool). cond q (padTo (length w) (wordsFrom (take n names) (runsOf ks))) (replicate (length w) blank)) g ∙ ap (padTo (length w)) wf ∙ r .1,
+      y .words ∙ ap (λ (q : Bool). cond q (padTo (length w) (wordsFrom (take (x .result .names) (x .last .1 .1 .0)) (runsOf ks))) (replicate (length w) blank)) g ∙ ap (padTo (length w)) wf ∙ r .1,
     )
 
 same-length-10 : tie.Need-same-length-10
@@ -345,39 +165,16 @@ same-length-14 c = search needs
 
 returns-3 : tie.Need-returns-3
 returns-3 c =
-    let b = c .before .before .before .before .before .before .before .before .before .before .before .before .before .before .before .before .before .before .before .before .before .before .before .before .before .before .before .before .before .before .before in
+    let a = c .before .before .before .before .before .before .before .before .before .before .before .before .before .before .before .before .before .before .before .before .before .before .before .before .before .before .before .before .before .before .before .args in
     let x = c .before .before .before .before .before .before .before .before .before .before .before .before .before .before .before .before .before .before .before .before .before .take-lines in
-    let z = c .before .before .before .before .before .before .before .before .before .before .before .before .before .before .if1 .left in
-    let t = x .ensures .tables z in
-    let n = x .result .names in
-    let p = x .result .postings in
-    let names = x .last .1 .1 .0 in
-    let triples = x .last .1 .1 .1 .0 in
-    let p1 = x .kept .1 .1 .0 ∙ b .pre .1 in
-    let p2 = x .kept .1 .1 .1 .0 ∙ b .pre .2 in
-    let p3 = b .pre .3 in
-    let tc = t .count in
-    let ts = t .sum in
-    let tf = t .fit .few in
-    let tp = few-postings (entriesOf (b .args .register .now)) (t .fit) in
-    let lt = length-take-le p triples (omega arith) in
-    let ls = length-take-le p (b .args .spare .now) (omega arith) in
-    let ln = length-take-le n names (omega arith) in
-    let srt = c .before .before .before .before .before .before .before .before .before .before .before .sort .last .0 in
-    let lr : length srt ≡ p = c .before .before .before .before .before .before .before .before .before .before .before .sort .kept .0 ∙ lt in
-    let la = length-append srt (drop p triples) in
-    let ta = take-at srt (drop p triples) p lr in
-    let tl = ap length ta in
     let y = c .before .before .before .finish .ensures in
-    let w = b .args .words .now in
-    let es = entriesOf (b .args .register .now) in
-    let ks = take p (srt ++ drop p triples) in
-    let wf = words-of es (take n names) ks (t .words) (ta ∙ c .before .before .before .before .before .before .before .before .before .before .before .sort .ensures ∙ ap sortOf (t .postings)) in
-    let z0 = sym (x .ensures .number) ∙ z in
+    let w = a .words .now in
+    let wf = indexed (c .before .before .before .before .before .before .before .before .before .before .before) in
+    let ks = take (x .result .postings) (c .before .before .before .before .before .before .before .before .before .before .before .sort .last .0 ++ drop (x .result .postings) (x .last .1 .1 .1 .0)) in
     let g = c .if2 .left in
-    let r = built-over (b .args .register .now) w z0 (ap (λ (l : List ℕ). leb (length l) (length w)) (sym wf) ∙ sym (y .fits) ∙ g) in (
+    let r = built-over (a .register .now) w (sym (x .ensures .number) ∙ c .before .before .before .before .before .before .before .before .before .before .before .before .before .before .if1 .left) (ap (λ (l : List ℕ). leb (length l) (length w)) (sym wf) ∙ sym (y .fits) ∙ g) in (
       r .0,
-      y .words ∙ ap (λ (q : Bool). cond q (padTo (length w) (wordsFrom (take n names) (runsOf ks))) (replicate (length w) blank)) g ∙ r .1,
+      y .words ∙ ap (λ (q : Bool). cond q (padTo (length w) (wordsFrom (take (x .result .names) (x .last .1 .1 .0)) (runsOf ks))) (replicate (length w) blank)) g ∙ r .1,
     )
 
 pub build-with-spec : {M : Type 1} → statement M

@@ -1,0 +1,588 @@
+/* The proved lookup beside an unverified twin in Rust, SimString and Rust's sort, in one run. bench/run builds and calls it.
+ *
+ *     measure DIRECTORY    a directory for SimString's files
+ *
+ * Before anything is timed every contender answers every query, and the answers are compared; a sample that is timed
+ * adds up what it found, and the sum is compared too. A difference ends the run with status 1. Times are the least of
+ * many samples, the contenders taking turns, so that what else the machine does falls on all alike. */
+#define _POSIX_C_SOURCE 200809L
+#include <stdarg.h>
+#include <stdbool.h>
+#include <stdint.h>
+#include <stdio.h>
+#include <stdlib.h>
+#include <string.h>
+#include <time.h>
+
+#include "rushgirdle.h"
+
+/* ---- what is measured */
+
+/* search_good, of an index that is known to be good (bench/measured.rattle) */
+rushgirdle_search_answer measured_search_good(const uint8_t *, size_t, uint8_t, uint16_t, uint16_t, uint32_t,
+                                              const uint32_t *, size_t, uint32_t *, size_t, uint32_t *, size_t,
+                                              uint32_t *, size_t);
+
+/* bench/twin.rs */
+bool twin_good(const uint32_t *, size_t);
+rushgirdle_build_answer twin_build(const uint8_t *, size_t, uint32_t *, size_t);
+rushgirdle_search_answer twin_search(const uint8_t *, size_t, uint8_t, uint16_t, uint16_t, uint32_t, const uint32_t *,
+                                     size_t, uint32_t *, uint32_t *, uint32_t *, size_t, bool);
+size_t twin_triples(const uint8_t *, size_t, uint64_t *, size_t);
+void twin_sort(uint64_t *, size_t);
+
+/* bench/simstring.cpp */
+#ifdef SIMSTRING
+void *simstring_make(const char *, const char *const *, size_t);
+size_t simstring_search(void *, const char *, int, double);
+const char *simstring_found(void *, size_t);
+void simstring_drop(void *);
+#endif
+
+enum { NAMES = 256, LONGEST = 64, QUERIES = 32, WORDS = RUSHGIRDLE_MOST_WORDS, POSTINGS = 16896, COPIES = 16 };
+
+static _Noreturn void fail(const char *format, ...)
+{
+    va_list words;
+    va_start(words, format);
+    fputs("bench: ", stderr);
+    vfprintf(stderr, format, words);
+    fputc('\n', stderr);
+    va_end(words);
+    exit(1);
+}
+
+/* ---- names */
+
+static uint64_t state = 1;
+
+static uint64_t below(uint64_t limit)
+{
+    state += 0x9E3779B97F4A7C15u;
+    uint64_t mixed = state;
+    mixed = (mixed ^ (mixed >> 30)) * 0xBF58476D1CE4E5B9u;
+    mixed = (mixed ^ (mixed >> 27)) * 0x94D049BB133111EBu;
+    return (mixed ^ (mixed >> 31)) % limit;
+}
+
+static const char *pick(const char *const *from, size_t count)
+{
+    return from[below(count)];
+}
+
+/* A name as pools have them: a place, now and then a saint or a side before it, and a kind of pool. */
+static void pool_name(char *name)
+{
+    static const char *const before[] = { "", "", "", "NORTH ", "SOUTH ", "OLD ", "ST ", "UPPER ", "KING " };
+    static const char *const place[] = { "ASHFORD", "BRIDGE", "CANAL", "DERBY", "EASTON", "FERRY", "GRANGE", "HARBOUR",
+                                         "ISLE", "JUBILEE", "KELSO", "LARCH", "MARINE", "NEWTON", "ORCHARD", "PARK",
+                                         "QUARRY", "RIVERSIDE", "STATION", "TINSIDE", "UNION", "VALE", "WATERLOO" };
+    static const char *const kind[] = { " LIDO", " POOL", " BATHS", " LEISURE CENTRE", " SWIM", " BATH", "", " SPA" };
+#define PICK(list) pick(list, sizeof list / sizeof *list)
+    const char *first = PICK(before), *middle = PICK(place), *last = PICK(kind);
+#undef PICK
+    snprintf(name, LONGEST + 1, "%s%s%s", first, middle, last);
+}
+
+/* Pool names one after the other, cut at a length. */
+static void long_name(char *name, size_t length)
+{
+    char part[LONGEST + 1];
+    size_t at = 0;
+    while (at < length) {
+        pool_name(part);
+        for (const char *from = part; *from && at < length; from++)
+            name[at++] = *from;
+    }
+    name[length] = 0;
+}
+
+/* A name as it is mistyped: one letter more, less, another, or two swapped. */
+static void mistype(char *name)
+{
+    size_t length = strlen(name), at = below(length);
+    char letter = (char)('A' + below(26));
+    switch (below(4)) {
+    case 0:
+        if (length < LONGEST) {
+            memmove(name + at + 1, name + at, length + 1 - at);
+            name[at] = letter;
+            break;
+        }
+        /* fall through */
+    case 1:
+        if (length > 1) {
+            memmove(name + at, name + at + 1, length - at);
+            break;
+        }
+        /* fall through */
+    case 2:
+        name[at] = letter;
+        break;
+    default:
+        if (at + 1 < length) {
+            char kept = name[at];
+            name[at] = name[at + 1];
+            name[at + 1] = kept;
+        }
+    }
+}
+
+/* ---- a scene: a register, its index, and queries */
+
+struct query {
+    char name[LONGEST + 1];
+    size_t length;
+};
+
+struct scene {
+    char label[64];
+    uint8_t measure;
+    uint16_t p, q;
+    size_t names, queries;
+    char name[NAMES][LONGEST + 1];
+    struct query query[QUERIES];
+    uint8_t lines[NAMES * (9 + 2 * LONGEST)];
+    size_t bytes;
+    uint32_t words[WORDS];
+    size_t total;
+    uint64_t triples[POSTINGS];
+    size_t postings;
+    void *simstring;
+    uint64_t rows, lost, touches;
+};
+
+/* Where searches and builds write. */
+static uint32_t ids[NAMES], shared[NAMES], sizes[NAMES], built[WORDS];
+static uint64_t copies[COPIES][POSTINGS];
+
+static const char *directory;
+
+static void ask(struct scene *s, const char *name)
+{
+    struct query *q = &s->query[s->queries++];
+    strcpy(q->name, name);
+    q->length = strlen(name);
+}
+
+/* Writes the register's lines, builds the index twice, compares, and makes SimString's. */
+static void ready(struct scene *s)
+{
+    s->bytes = 0;
+    for (size_t at = 0; at < s->names; at++) {
+        rushgirdle_write_answer w =
+            rushgirdle_write_name(s->lines + s->bytes, sizeof s->lines - s->bytes, (uint16_t)(at * 251 + 7),
+                                  (const uint8_t *)s->name[at], strlen(s->name[at]));
+        if (w.number)
+            fail("%s: a name cannot be written", s->label);
+        s->bytes += w.len;
+    }
+    rushgirdle_build_answer one = rushgirdle_build(s->lines, s->bytes, s->words, WORDS);
+    rushgirdle_build_answer other = twin_build(s->lines, s->bytes, built, WORDS);
+    if (one.number || other.number || memcmp(s->words, built, sizeof built))
+        fail("%s: the builds differ, or are refused with %u and %u", s->label, one.number, other.number);
+    s->total = 3 + s->words[0] + 4 * (size_t)s->words[1] + s->words[2];
+    if (!rushgirdle_good(s->words, s->total) || !twin_good(s->words, s->total))
+        fail("%s: a built index is not good", s->label);
+    s->postings = twin_triples(s->lines, s->bytes, s->triples, POSTINGS);
+    memcpy(copies[0], s->triples, s->postings * sizeof *s->triples);
+    twin_sort(copies[0], s->postings);
+    for (size_t at = 0; at < s->postings; at++)
+        if ((uint32_t)(copies[0][at] & 0xFFFF) != s->words[s->total - s->postings + at])
+            fail("%s: the sorted triples are not the postings", s->label);
+#ifdef SIMSTRING
+    char path[512];
+    const char *names[NAMES];
+    for (size_t at = 0; at < s->names; at++)
+        names[at] = s->name[at];
+    snprintf(path, sizeof path, "%s/names.db", directory);
+    if (!(s->simstring = simstring_make(path, names, s->names)))
+        fail("%s: SimString makes no database in %s", s->label, directory);
+#endif
+}
+
+/* ---- the contenders, each over all queries of a scene once; what they found is added up */
+
+typedef uint64_t contender(struct scene *);
+
+static uint64_t proved_search_good(struct scene *s)
+{
+    uint64_t sum = 0;
+    for (size_t at = 0; at < s->queries; at++) {
+        const struct query *q = &s->query[at];
+        sum += measured_search_good((const uint8_t *)q->name, q->length, s->measure, s->p, s->q, UINT32_MAX, s->words,
+                                    s->total, ids, NAMES, shared, NAMES, sizes, NAMES).rows;
+    }
+    return sum;
+}
+
+static uint64_t proved_search(struct scene *s)
+{
+    uint64_t sum = 0;
+    for (size_t at = 0; at < s->queries; at++) {
+        const struct query *q = &s->query[at];
+        sum += rushgirdle_search((const uint8_t *)q->name, q->length, s->measure, s->p, s->q, UINT32_MAX, s->words,
+                                 s->total, ids, NAMES, shared, NAMES, sizes, NAMES).rows;
+    }
+    return sum;
+}
+
+static uint64_t twin_by(struct scene *s, bool checked)
+{
+    uint64_t sum = 0;
+    for (size_t at = 0; at < s->queries; at++) {
+        const struct query *q = &s->query[at];
+        sum += twin_search((const uint8_t *)q->name, q->length, s->measure, s->p, s->q, UINT32_MAX, s->words, s->total,
+                           ids, shared, sizes, NAMES, checked).rows;
+    }
+    return sum;
+}
+
+static uint64_t twin_search_good(struct scene *s)
+{
+    return twin_by(s, false);
+}
+
+static uint64_t twin_check_search(struct scene *s)
+{
+    return twin_by(s, true);
+}
+
+static uint64_t by_simstring(struct scene *s)
+{
+    uint64_t sum = 0;
+#ifdef SIMSTRING
+    for (size_t at = 0; at < s->queries; at++)
+        sum += simstring_search(s->simstring, s->query[at].name, s->measure, (double)s->p / s->q);
+#else
+    (void)s;
+#endif
+    return sum;
+}
+
+static uint64_t proved_good(struct scene *s)
+{
+    return rushgirdle_good(s->words, s->total);
+}
+
+static uint64_t twin_check(struct scene *s)
+{
+    return twin_good(s->words, s->total);
+}
+
+/* Into a slice of exactly the index's length, so that nobody is charged for filling what is beyond. */
+static uint64_t proved_build(struct scene *s)
+{
+    return rushgirdle_build(s->lines, s->bytes, built, s->total).number == 0;
+}
+
+static uint64_t twin_builds(struct scene *s)
+{
+    return twin_build(s->lines, s->bytes, built, s->total).number == 0;
+}
+
+/* Sorts copies that were made before the clock started. */
+static uint64_t rust_sort(struct scene *s)
+{
+    for (size_t at = 0; at < COPIES; at++)
+        twin_sort(copies[at], s->postings);
+    return 1;
+}
+
+/* ---- answers compared */
+
+static int by_text(const void *one, const void *other)
+{
+    return strcmp(*(const char *const *)one, *(const char *const *)other);
+}
+
+/* What SimString lists has to be among the answers; what it lacks is counted. */
+static void compare_simstring(struct scene *s, const struct query *q, size_t rows)
+{
+#ifdef SIMSTRING
+    const char *ours[NAMES], *theirs[NAMES];
+    size_t found = simstring_search(s->simstring, q->name, s->measure, (double)s->p / s->q), at = 0;
+    if (found > NAMES)
+        fail("%s, %s: SimString lists %zu names", s->label, q->name, found);
+    for (size_t k = 0; k < rows; k++)
+        ours[k] = s->name[(ids[k] - 7) / 251];
+    for (size_t k = 0; k < found; k++)
+        theirs[k] = simstring_found(s->simstring, k);
+    qsort(ours, rows, sizeof *ours, by_text);
+    qsort(theirs, found, sizeof *theirs, by_text);
+    for (size_t k = 0; k < found; k++) {
+        while (at < rows && strcmp(ours[at], theirs[k]))
+            at++;
+        if (at++ == rows)
+            fail("%s, %s: SimString lists %s, and that is no answer", s->label, q->name, theirs[k]);
+    }
+    s->lost += rows - found;
+#else
+    (void)s, (void)q, (void)rows;
+#endif
+}
+
+/* Every query by every contender; the rows, the counts and the threshold have to be the same. */
+static void compare(struct scene *s)
+{
+    s->rows = s->lost = s->touches = 0;
+    for (size_t at = 0; at < s->queries; at++) {
+        const struct query *q = &s->query[at];
+        const uint8_t *name = (const uint8_t *)q->name;
+        uint32_t column[4][3][NAMES];
+        rushgirdle_search_answer answer[4];
+        memset(column, 0xA5, sizeof column);
+        for (int by = 0; by < 4; by++) {
+            uint32_t(*c)[NAMES] = column[by];
+            answer[by] =
+                by == 0 ? rushgirdle_search(name, q->length, s->measure, s->p, s->q, UINT32_MAX, s->words, s->total,
+                                            c[0], NAMES, c[1], NAMES, c[2], NAMES)
+                : by == 1 ? measured_search_good(name, q->length, s->measure, s->p, s->q, UINT32_MAX, s->words,
+                                                 s->total, c[0], NAMES, c[1], NAMES, c[2], NAMES)
+                          : twin_search(name, q->length, s->measure, s->p, s->q, UINT32_MAX, s->words, s->total, c[0],
+                                        c[1], c[2], NAMES, by == 2);
+            const rushgirdle_search_answer *one = &answer[0], *other = &answer[by];
+            if (one->number || other->number || one->rows != other->rows || one->touches != other->touches ||
+                one->p != other->p || one->q != other->q || memcmp(column[0], c, sizeof column[0]))
+                fail("%s, %s: contenders 0 and %d differ", s->label, q->name, by);
+        }
+        memcpy(ids, column[0][0], sizeof ids);
+        s->rows += answer[0].rows;
+        s->touches += answer[0].touches;
+        compare_simstring(s, q, answer[0].rows);
+    }
+}
+
+/* ---- times: of this thread alone, so that a wait for the processor is not counted */
+
+static double now(void)
+{
+    struct timespec at;
+    clock_gettime(CLOCK_THREAD_CPUTIME_ID, &at);
+    return (double)at.tv_sec + 1e-9 * (double)at.tv_nsec;
+}
+
+struct timed {
+    contender *run;
+    uint64_t per, expected; /* how many searches or builds a run is, and what it adds up to */
+    bool sorts;
+    unsigned times;
+    double least; /* seconds for one */
+};
+
+/* One sample: as many runs as make half a millisecond, or the copies sorted once. */
+static void sample(struct timed *t, struct scene *s)
+{
+    if (t->sorts) {
+        for (size_t at = 0; at < COPIES; at++)
+            memcpy(copies[at], s->triples, s->postings * sizeof *s->triples);
+        double from = now();
+        t->run(s);
+        double took = (now() - from) / COPIES;
+        t->least = took < t->least ? took : t->least;
+        return;
+    }
+    for (;;) {
+        double from = now();
+        for (unsigned k = 0; k < t->times; k++)
+            if (t->run(s) != t->expected)
+                fail("%s: a contender answers otherwise while it is timed", s->label);
+        double took = now() - from;
+        if (took < 5e-4) {
+            t->times *= 2;
+            continue;
+        }
+        took /= (double)t->times * (double)t->per;
+        t->least = took < t->least ? took : t->least;
+        return;
+    }
+}
+
+enum { GOOD, TWIN_GOOD, SIM, SEARCH, TWIN_SEARCH, CHECK, TWIN_CHECK, BUILD, TWIN_BUILD, SORT, CONTENDERS };
+
+static void take_times(struct scene *s, double *seconds, unsigned rounds)
+{
+    struct timed t[CONTENDERS] = {
+        [GOOD] = { proved_search_good, s->queries, s->rows, false, 1, 1e9 },
+        [TWIN_GOOD] = { twin_search_good, s->queries, s->rows, false, 1, 1e9 },
+        [SIM] = { by_simstring, s->queries, s->rows - s->lost, false, 1, 1e9 },
+        [SEARCH] = { proved_search, s->queries, s->rows, false, 1, 1e9 },
+        [TWIN_SEARCH] = { twin_check_search, s->queries, s->rows, false, 1, 1e9 },
+        [CHECK] = { proved_good, 1, 1, false, 1, 1e9 },
+        [TWIN_CHECK] = { twin_check, 1, 1, false, 1, 1e9 },
+        [BUILD] = { proved_build, 1, 1, false, 1, 1e9 },
+        [TWIN_BUILD] = { twin_builds, 1, 1, false, 1, 1e9 },
+        [SORT] = { rust_sort, 1, 1, true, 1, 1e9 },
+    };
+    for (unsigned round = 0; round < rounds; round++)
+        for (int k = 0; k < CONTENDERS; k++)
+            if (k != SIM || s->simstring)
+                sample(&t[k], s);
+    for (int k = 0; k < CONTENDERS; k++)
+        seconds[k] = t[k].least;
+}
+
+/* ---- what is printed */
+
+static struct {
+    const char *what;
+    int over, under;
+    double goal, worst;
+    char at[64];
+} goals[] = {
+    { "search_good / SimString", GOOD, SIM, 1.0, 0, "" },
+    { "search_good / twin", GOOD, TWIN_GOOD, 1.1, 0, "" },
+    { "search / twin's check and search", SEARCH, TWIN_SEARCH, 1.2, 0, "" },
+    { "build / sort_unstable", BUILD, SORT, 4.0, 0, "" },
+};
+
+static void note(const struct scene *s, const double *seconds)
+{
+    for (size_t g = 0; g < sizeof goals / sizeof *goals; g++) {
+        double ratio = seconds[goals[g].over] / seconds[goals[g].under];
+        if (goals[g].under == SIM && !s->simstring)
+            continue;
+        if (ratio > goals[g].worst) {
+            goals[g].worst = ratio;
+            snprintf(goals[g].at, sizeof goals[g].at, "%s", s->label);
+        }
+    }
+}
+
+static void measure(struct scene *s, unsigned rounds)
+{
+    double t[CONTENDERS];
+    ready(s);
+    compare(s);
+    take_times(s, t, rounds);
+    note(s, t);
+    printf("| %s | %.0f | %.2f | ", s->label, (double)s->touches / (double)s->queries, t[GOOD] * 1e6);
+    if (s->simstring)
+        printf("%.2f | ", t[GOOD] / t[SIM]);
+    else
+        printf("- | ");
+    printf("%.2f | %.1f | %.2f | %.2f | %.1f | %.2f | %.2f |\n", t[GOOD] / t[TWIN_GOOD], t[SEARCH] * 1e6,
+           t[SEARCH] / t[TWIN_SEARCH], t[CHECK] / t[TWIN_CHECK], t[BUILD] * 1e6, t[BUILD] / t[SORT],
+           t[BUILD] / t[TWIN_BUILD]);
+    fflush(stdout);
+#ifdef SIMSTRING
+    simstring_drop(s->simstring);
+    s->simstring = NULL;
+#endif
+}
+
+static void head(void)
+{
+    puts("| register and queries | touches | search_good, us | / SimString | / twin | search, us | / twin's check and search |"
+         " check / twin's | build, us | / sort | / twin's |");
+    puts("|---|---|---|---|---|---|---|---|---|---|---|");
+}
+
+static struct scene scene;
+
+static struct scene *begin(uint8_t measure, uint16_t p, uint16_t q, const char *format, ...)
+{
+    va_list words;
+    va_start(words, format);
+    memset(&scene, 0, sizeof scene);
+    vsnprintf(scene.label, sizeof scene.label, format, words);
+    va_end(words);
+    scene.measure = measure;
+    scene.p = p;
+    scene.q = q;
+    return &scene;
+}
+
+static void mistyped_queries(struct scene *s)
+{
+    char name[LONGEST + 1];
+    while (s->queries < QUERIES) {
+        strcpy(name, s->name[below(s->names)]);
+        mistype(name);
+        ask(s, name);
+    }
+}
+
+static const char *const measures[] = { "", "Dice", "Jaccard", "cosine", "overlap" };
+
+static void pools(uint8_t measure_by, uint16_t p, uint16_t q, unsigned rounds)
+{
+    struct scene *s = begin(measure_by, p, q, "256 pool names, %s %u/%u", measures[measure_by], p, q);
+    state = 1;
+    for (s->names = 0; s->names < NAMES; s->names++)
+        pool_name(s->name[s->names]);
+    mistyped_queries(s);
+    measure(s, rounds);
+}
+
+static void worst(uint16_t p, uint16_t q, unsigned rounds)
+{
+    struct scene *s = begin(1, p, q, "256 equal names of 64 bytes, Dice %u/%u", p, q);
+    state = 1;
+    long_name(s->name[0], LONGEST);
+    for (s->names = 1; s->names < NAMES; s->names++)
+        strcpy(s->name[s->names], s->name[0]);
+    ask(s, s->name[0]);
+    measure(s, rounds);
+}
+
+static void grown(size_t names, size_t length, unsigned rounds)
+{
+    struct scene *s = begin(3, 7, 10, "%zu names of %zu bytes, cosine 7/10", names, length);
+    state = 1;
+    for (s->names = 0; s->names < names; s->names++)
+        long_name(s->name[s->names], length);
+    mistyped_queries(s);
+    measure(s, rounds);
+}
+
+/* A name exactly on the threshold: listed here, and by SimString or not. */
+static void on_threshold(const char *name, const char *query, uint16_t p, uint16_t q)
+{
+    struct scene *s = begin(1, p, q, "threshold");
+    strcpy(s->name[s->names++], name);
+    ask(s, query);
+    ready(s);
+    compare(s);
+    printf("| %s | %s | Dice %u/%u | %s | ", name, query, p, q, s->rows ? "listed" : "not listed");
+    if (s->simstring)
+        puts(s->lost ? "not listed |" : "listed |");
+    else
+        puts("- |");
+#ifdef SIMSTRING
+    simstring_drop(s->simstring);
+#endif
+}
+
+int main(int count, char **given)
+{
+    if (count != 2) {
+        fputs("usage: measure DIRECTORY\n", stderr);
+        return 2;
+    }
+    directory = given[1];
+    unsigned rounds = 60;
+    head();
+    for (uint8_t by = 1; by <= 4; by++)
+        pools(by, 7, 10, rounds);
+    worst(1, 1, rounds);
+    worst(1, 1000, rounds);
+    puts("\nAs names and lengths grow:\n");
+    head();
+    for (size_t names = 16; names <= 256; names *= 4)
+        for (size_t length = 8; length <= 64; length = length == 16 ? 64 : 2 * length)
+            grown(names, length, rounds);
+    puts("\nThe goals, by the largest ratio of all rows above:\n");
+    puts("| ratio | goal | largest | at | |\n|---|---|---|---|---|");
+    for (size_t g = 0; g < sizeof goals / sizeof *goals; g++)
+        if (goals[g].worst == 0)
+            printf("| %s | %.1f | - | | not measured |\n", goals[g].what, goals[g].goal);
+        else
+            printf("| %s | %.1f | %.2f | %s | %s |\n", goals[g].what, goals[g].goal, goals[g].worst, goals[g].at,
+                   goals[g].worst <= goals[g].goal ? "met" : "missed");
+    puts("\nNames on the threshold:\n");
+    puts("| register | query | threshold | here | SimString |\n|---|---|---|---|---|");
+    on_threshold("abcdefghijcd", "abcd", 3, 5);
+    on_threshold("abab", "ab", 4, 5);
+    return 0;
+}

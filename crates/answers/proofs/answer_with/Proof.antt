@@ -1,0 +1,126 @@
+-- `answer_with` meets its contract: a line that is no query is refused, and of any other the answer's text is that of the lent columns.
+use mathlib.Core.Path.{_≡_, sym, ap, _∙_}
+use mathlib.Core.List.{List}
+use Prim.Native.Nat.{ℕ}
+use lib.ListN.{length, take}
+use lib.Seq.{length-take-le}
+use Rattle.search.specs.Answers.{searchOf}
+use Rattle.answers.specs.Output.{fittingOf, fittedOf}
+use Rattle.answers.proofs.Text.{refusal-fitting, refusal-fitted}
+use Rattle.answers.proofs.Asking.{query-frame, query-bad, query-measure, query-p, query-q, query-allowance, query-within, query-bytes, shown, text-same, answer-as, room-lent}
+use borrow.Author.Needs.{needs}
+use Rattle.answers.proofs.answer_with.Statement.{statement}
+use Rattle.answers.proofs.answer_with.Tie as tie
+
+read-query-requires : tie.Need-read-query-requires
+read-query-requires c κs = search needs
+
+write-refusal-requires : tie.Need-write-refusal-requires
+write-refusal-requires c κs = search needs
+
+same-length : tie.Need-same-length
+same-length c = search needs
+
+same-length-2 : tie.Need-same-length-2
+same-length-2 c = search needs
+
+returns : tie.Need-returns
+returns c =
+    let b = c .before .before .before .before .before .before .before .before .before .before .before .before .before .before .before .before in
+    let a = b .args in
+    let y = c .before .before .before .before .before .before .before .read-query in
+    let v = c .before .before .write-refusal .ensures in
+    let t = query-bad (a .line .now) (a .query .now) (y .last .1 .0) (y .result) (b .pre .1) (y .ensures .0) (y .ensures .1) (a .words .now) (c .before .before .before .before .if1 .taken) in (
+      v .0 ∙ refusal-fitting (y .result .number) 0 (length (a .out .now)) ∙ ap (λ (x : List ℕ). fittingOf x (length (a .out .now))) t,
+      v .1 ∙ refusal-fitted (y .result .number) 0 (a .out .now) ∙ ap (λ (x : List ℕ). fittedOf x (a .out .now)) t,
+    )
+
+slice-reshare-prefix-ask : tie.Need-slice-reshare-prefix-ask
+slice-reshare-prefix-ask c =
+    let b = c .before .before .before .before .before .before .before .before .before .before .before .before in
+    let a = b .args in
+    let y = c .before .before .before .read-query in
+    query-within (a .line .now) (a .query .now) (y .last .1 .0) (y .result) (b .pre .1) (y .ensures .0) (y .ensures .1) (c .if1 .left)
+
+slice-aggregate-ask : tie.Need-slice-aggregate-ask
+slice-aggregate-ask c =
+    let b = c .before .before .before .before .before .before .before .before .before .before .before .before .before in
+    let a = b .args in
+    let y = c .before .before .before .before .read-query in
+    sym (length-take-le (y .result .len) (y .last .1 .0) (query-within (a .line .now) (a .query .now) (y .last .1 .0) (y .result) (b .pre .1) (y .ensures .0) (y .ensures .1) (c .before .if1 .left)))
+
+ask-requires : tie.Need-ask-requires
+ask-requires c κs = search needs
+
+put-answer-requires : tie.Need-put-answer-requires
+put-answer-requires c κs =
+    let b = c .before .before .before .before .before .before .before .before .before .before .before .before .before .before .before .before .before .before .before .before .before .before .before .before .before .before .before in
+    let a = b .args in
+    let y = c .before .before .before .before .before .before .before .before .before .before .before .before .before .before .before .before .before .before .read-query in
+    let z = c .before .before .before .before .before .before .before .before .before .before .before .before .before .before .before .if1 .left in
+    let k = c .before .before .before .before .before .before .before .before .before .before .ask in
+    let w = a .words .now in
+    let s = take (y .result .len) (y .last .1 .0) in
+    let room = room-lent (a .ids .now) (a .shared .now) (a .sizes .now) (b .pre .2) (b .pre .3) (b .pre .4) in
+    let e = k .ensures .0 ∙ ap (searchOf s (y .result .measure) (y .result .p) (y .result .q) (y .result .allowance) w) room in
+    shown s (y .result .measure) (y .result .p) (y .result .q) (y .result .allowance) w (a .ids .now) (a .shared .now) (a .sizes .now) (k .last .1 .1 .1 .1 .1 .1 .1 .0) (k .last .1 .1 .1 .1 .1 .1 .1 .1 .0) (k .last .1 .1 .1 .1 .1 .1 .1 .1 .1 .0) (k .result) e (k .ensures .1 .0) (k .ensures .1 .1 .0) (k .ensures .1 .1 .1)
+
+same-length-3 : tie.Need-same-length-3
+same-length-3 c = search needs
+
+same-length-4 : tie.Need-same-length-4
+same-length-4 c = search needs
+
+same-length-5 : tie.Need-same-length-5
+same-length-5 c = search needs
+
+same-length-6 : tie.Need-same-length-6
+same-length-6 c = search needs
+
+same-length-7 : tie.Need-same-length-7
+same-length-7 c = search needs
+
+returns-2 : tie.Need-returns-2
+returns-2 c =
+    let b = c .before .before .before .before .before .before .before .before .before .before .before .before .before .before .before .before .before .before .before .before .before .before .before .before .before .before .before .before .before .before in
+    let a = b .args in
+    let y = c .before .before .before .before .before .before .before .before .before .before .before .before .before .before .before .before .before .before .before .before .before .read-query in
+    let z = c .before .before .before .before .before .before .before .before .before .before .before .before .before .before .before .before .before .before .if1 .left in
+    let k = c .before .before .before .before .before .before .before .before .before .before .before .before .before .ask in
+    let w = a .words .now in
+    let s = take (y .result .len) (y .last .1 .0) in
+    let room = room-lent (a .ids .now) (a .shared .now) (a .sizes .now) (b .pre .2) (b .pre .3) (b .pre .4) in
+    let e = k .ensures .0 ∙ ap (searchOf s (y .result .measure) (y .result .p) (y .result .q) (y .result .allowance) w) room in
+    let v = c .before .before .put-answer .ensures in
+    let t =
+    text-same s (y .result .measure) (y .result .p) (y .result .q) (y .result .allowance) w (a .ids .now) (a .shared .now) (a .sizes .now) (k .last .1 .1 .1 .1 .1 .1 .1 .0) (k .last .1 .1 .1 .1 .1 .1 .1 .1 .0) (k .last .1 .1 .1 .1 .1 .1 .1 .1 .1 .0) (k .result) e (k .ensures .1 .0) (k .ensures .1 .1 .0) (k .ensures .1 .1 .1)
+    ∙ answer-as w (a .line .now) s (y .result .measure) (y .result .p) (y .result .q) (y .result .allowance) (k .result)
+    (query-frame (a .line .now) (a .query .now) (y .last .1 .0) (y .result) (b .pre .1) (y .ensures .0) (y .ensures .1) z)
+    (query-bytes (a .line .now) (a .query .now) (y .last .1 .0) (y .result) (b .pre .1) (y .ensures .0) (y .ensures .1) z)
+    (query-measure (a .line .now) (a .query .now) (y .last .1 .0) (y .result) (b .pre .1) (y .ensures .0) (y .ensures .1) z)
+    (query-p (a .line .now) (a .query .now) (y .last .1 .0) (y .result) (b .pre .1) (y .ensures .0) (y .ensures .1) z)
+    (query-q (a .line .now) (a .query .now) (y .last .1 .0) (y .result) (b .pre .1) (y .ensures .0) (y .ensures .1) z)
+    (query-allowance (a .line .now) (a .query .now) (y .last .1 .0) (y .result) (b .pre .1) (y .ensures .0) (y .ensures .1) z)
+    e
+    in
+    (v .0 ∙ ap (λ (x : List ℕ). fittingOf x (length (a .out .now))) t, v .1 ∙ ap (λ (x : List ℕ). fittedOf x (a .out .now)) t)
+
+pub answer-with-spec : {M : Type 1} → statement M
+answer-with-spec =
+    tie.close
+    (tie.spec
+    read-query-requires
+    write-refusal-requires
+    same-length
+    same-length-2
+    returns
+    slice-reshare-prefix-ask
+    slice-aggregate-ask
+    ask-requires
+    put-answer-requires
+    same-length-3
+    same-length-4
+    same-length-5
+    same-length-6
+    same-length-7
+    returns-2)

@@ -1,0 +1,204 @@
+-- Laws of a search's answer and of its columns: how many rows it gives, that room for all names is room enough, and the columns' rows as records.
+-- Cited by the proof of `fill_columns`.
+-- Assumes nothing.
+use mathlib.Core.Path.{_≡_, refl, sym, ap, subst, _∙_}
+use mathlib.Core.Logic.{⊎-elim}
+use mathlib.Core.Bool.{Bool, true, false, cond}
+use mathlib.Core.List.{List, [], _∷_, _++_, map, append-nil}
+use Prim.Native.Nat.{ℕ, zero, suc, _≤_, _<_, min}
+use native.Mathlib.Nat.{min-eq-left, min-eq-right, min-le-right}
+use native.Mathlib.Omega.{arith}
+use lib.ListN.{length, getD, take, drop, length-append, length-map, List·getD-append}
+use lib.Seq.{length-take-le}
+use lib.Dec.{ltb, eqb}
+use borrow.Author.Tests.{le-ltb, ltb-false, eqb-true, ne-eqb}
+use Rattle.laws.specs.Lists.{tabulate}
+use Rattle.laws.proofs.Order.{le-or-lt}
+use Rattle.laws.proofs.Images.{tabulate-of}
+use Rattle.names.specs.Features.{featuresOf}
+use Rattle.likeness.specs.Terms.{lowestTerms}
+use Rattle.index.specs.Words.{nameCount, nameId, nameSize}
+use Rattle.index.specs.Good.{mostNames, goodOf}
+use Rattle.index.proofs.Laws.{good-names-most}
+use Rattle.search.specs.Method.{sharedWith, touchesOf, listed, answersBelow, answersOf}
+use Rattle.search.specs.Answers.{rowsIn, questionOf, refusalOf, searchGoodOf, searchOf, givenBy, roomOf, over, idColumn, sharedColumn, sizeColumn}
+use Rattle.search.specs.declared.Answer.{Answer}
+use Rattle.search.specs.declared.Answer.the-variants.{Found, Refused}
+use Rattle.rows.specs.declared.Row.{Row}
+use Rattle.rows.specs.Rows.{rowOf, rowsOf, rowAt, rowsFrom, Filled}
+use Rattle.rows.proofs.Lists.{noRow}
+
+-- ---- how many answers there are
+
+module _ (w : List ℕ) (m p q : ℕ) (query : List ℕ) where
+  below-most : (k : ℕ) → length (answersBelow w m p q query k) ≤ k
+  unfolding answersBelow
+  below-most zero = omega arith
+  below-most (suc k) = by-test (listed w m p q query k) (below-most k)
+    where
+      by-test : (b : Bool) → length (answersBelow w m p q query k) ≤ k → length (answersBelow w m p q query k ++ cond b (k ∷ []) []) ≤ suc k
+      by-test true h = let e = length-append (answersBelow w m p q query k) (k ∷ []) in omega arith
+      by-test false h = let e = ap length (append-nil (answersBelow w m p q query k)) in omega arith
+
+  -- at most as many as a good index has names
+  pub answers-most : goodOf w ≡ true → length (answersOf w m p q query) ≤ mostNames
+  unfolding answersOf
+  answers-most g =
+      let a = below-most (nameCount w) in
+      let b = good-names-most w g in
+      omega arith
+
+-- ---- the cases of an answer
+
+-- what is not refused before the search is asked of a good index
+refusal-good : (s : List ℕ) (m p q : ℕ) (w : List ℕ) → refusalOf s m p q w ≡ 0 → goodOf w ≡ true
+unfolding refusalOf
+refusal-good s m p q w e = by-number (questionOf s m p q) (goodOf w) e
+  where
+    by-number : (n : ℕ) (b : Bool) → cond (eqb n 0) (cond b 0 6) n ≡ 0 → b ≡ true
+    by-number zero true e = refl
+    by-number zero false e = absurd (omega arith)
+    by-number (suc n) b e =
+        let z : suc n ≡ 0 = ap (λ (t : Bool). cond t (cond b 0 6) (suc n)) (sym (ne-eqb (suc n) 0 (λ (h : suc n ≡ 0). omega arith))) ∙ e in
+        absurd (omega arith)
+
+module _ (s : List ℕ) (m p q allowance : ℕ) (w : List ℕ) where
+  abbrev answers : List ℕ
+  answers = answersOf w m p q (featuresOf s)
+
+  -- an answer has as many rows as it gives names, and there is room for them
+  abbrev pub Outcome : ℕ → Answer → Type 0
+  Outcome room r = (rowsIn r ≡ length (givenBy r answers)) × (rowsIn r ≤ room) × (rowsIn r ≤ mostNames)
+
+  refused-outcome : (room number touches : ℕ) → Outcome room (Refused number touches)
+  unfolding givenBy
+  refused-outcome room number touches = (refl, omega arith, omega arith)
+
+  good-outcome : (room : ℕ) → goodOf w ≡ true → Outcome room (searchGoodOf s m p q allowance w room)
+  unfolding searchGoodOf givenBy
+  good-outcome room g = by-tests (ltb allowance (touchesOf w m p q (featuresOf s))) (ltb room (length answers)) refl
+    where
+      by-tests : (a b : Bool) → ltb room (length answers) ≡ b
+          → Outcome room (cond a (Refused 7 allowance) (cond b (Refused 8 (touchesOf w m p q (featuresOf s))) (Found (length answers) (touchesOf w m p q (featuresOf s)) (lowestTerms p q .p) (lowestTerms p q .q))))
+      by-tests true b e = refused-outcome room 7 allowance
+      by-tests false true e = refused-outcome room 8 (touchesOf w m p q (featuresOf s))
+      by-tests false false e = (refl, ltb-false room (length answers) e, answers-most w m p q (featuresOf s) g)
+
+  pub outcome : (room : ℕ) → Outcome room (searchOf s m p q allowance w room)
+  unfolding searchOf
+  outcome room = by-refusal (eqb (refusalOf s m p q w) 0) refl
+    where
+      by-refusal : (b : Bool) → eqb (refusalOf s m p q w) 0 ≡ b → Outcome room (cond b (searchGoodOf s m p q allowance w room) (Refused (refusalOf s m p q w) 0))
+      by-refusal true e = good-outcome room (refusal-good s m p q w (eqb-true (refusalOf s m p q w) 0 e))
+      by-refusal false e = refused-outcome room (refusalOf s m p q w) 0
+
+  -- room for all names is room enough
+  same-test : (room n : ℕ) → n ≤ mostNames → ltb (min room mostNames) n ≡ ltb room n
+  same-test room n h =
+      ⊎-elim
+      (λ (a : mostNames ≤ room).
+      let b : n ≤ room = omega arith in
+      ap (λ (k : ℕ). ltb k n) (min-eq-right a) ∙ le-ltb mostNames n h ∙ sym (le-ltb room n b))
+      (λ (a : room < mostNames). let b : room ≤ mostNames = omega arith in ap (λ (k : ℕ). ltb k n) (min-eq-left b))
+      (le-or-lt mostNames room)
+
+  good-room : (room : ℕ) → goodOf w ≡ true → searchGoodOf s m p q allowance w (min room mostNames) ≡ searchGoodOf s m p q allowance w room
+  unfolding searchGoodOf
+  good-room room g =
+      ap (λ (b : Bool). cond (ltb allowance (touchesOf w m p q (featuresOf s))) (Refused 7 allowance)
+      (cond b (Refused 8 (touchesOf w m p q (featuresOf s))) (Found (length answers) (touchesOf w m p q (featuresOf s)) (lowestTerms p q .p) (lowestTerms p q .q))))
+      (same-test room (length answers) (answers-most w m p q (featuresOf s) g))
+
+  pub room-enough : (room : ℕ) → searchOf s m p q allowance w (min room mostNames) ≡ searchOf s m p q allowance w room
+  unfolding searchOf
+  room-enough room = by-refusal (eqb (refusalOf s m p q w) 0) refl
+    where
+      refused : Answer
+      refused = Refused (refusalOf s m p q w) 0
+
+      by-refusal : (b : Bool) → eqb (refusalOf s m p q w) 0 ≡ b
+          → cond b (searchGoodOf s m p q allowance w (min room mostNames)) refused ≡ cond b (searchGoodOf s m p q allowance w room) refused
+      by-refusal true e = good-room room (refusal-good s m p q w (eqb-true (refusalOf s m p q w) 0 e))
+      by-refusal false e = refl
+
+-- ---- the columns' rows
+
+getD-map : {A : Type 0} (f : ℕ → A) (l : List ℕ) (k d : ℕ) (e : A) → k < length l → getD (map f l) k e ≡ f (getD l k d)
+getD-map f [] k d e h = absurd (omega arith)
+getD-map f (x ∷ l) zero d e h = refl
+getD-map f (x ∷ l) (suc k) d e h = getD-map f l k d e (omega arith)
+
+-- an entry of a column that starts with the places' values
+column-entry : (f : ℕ → ℕ) (places l rest : List ℕ) (k : ℕ) → k < length places → getD ((map f places ++ l) ++ rest) k 0 ≡ f (getD places k 0)
+column-entry f places l rest k h =
+    let e : length (map f places) ≡ length places = length-map places f in
+    let a = length-append (map f places) l in
+    List·getD-append (map f places ++ l) rest 0 k (let b : k < length (map f places ++ l) = omega arith in b)
+    ∙ List·getD-append (map f places) l 0 k (let b : k < length (map f places) = omega arith in b)
+    ∙ getD-map f places k 0 0 h
+
+-- three columns that start with the places' ids, shared counts and sizes have the places' rows
+pub rows-columns : (w query places a b c x y z : List ℕ)
+    → rowsFrom (length places) ((map (nameId w) places ++ a) ++ x) ((map (sharedWith w query) places ++ b) ++ y) ((map (nameSize w) places ++ c) ++ z)
+    ≡ rowsOf w query places
+rows-columns w query places a b c x y z =
+    sym (tabulate-of (rowAt ids shared sizes) (length places) noRow (rowsOf w query places) (length-map places (rowOf w query))
+    (λ k h. getD-map (rowOf w query) places k 0 noRow h ∙ sym (same k h)))
+  where
+    ids : List ℕ
+    ids = (map (nameId w) places ++ a) ++ x
+
+    shared : List ℕ
+    shared = (map (sharedWith w query) places ++ b) ++ y
+
+    sizes : List ℕ
+    sizes = (map (nameSize w) places ++ c) ++ z
+
+    same : (k : ℕ) → k < length places → rowAt ids shared sizes k ≡ rowOf w query (getD places k 0)
+    same k h = λ t. record {
+      id = column-entry (nameId w) places a x k h t;
+      shared = column-entry (sharedWith w query) places b y k h t;
+      size = column-entry (nameSize w) places c z k h t;
+    }
+
+-- ---- what `fill_columns` leaves
+
+-- a column cut at the room, or at a number within the column where that is less, is as long as the cut
+pub length-cut : (n room most : ℕ) (l : List ℕ) → n ≡ min room most → most ≤ length l → length (take n l) ≡ n
+length-cut n room most l e f = let h = min-le-right room most in length-take-le n l (let g : n ≤ length l = omega arith in g)
+
+pub cut-counted : (n room most : ℕ) (l : List ℕ) → n ≡ min room most → most ≤ length l → n ≡ length (take n l)
+cut-counted n room most l e f = sym (length-cut n room most l e f)
+
+room-three : (a b c : List ℕ) (n : ℕ) → length a ≡ n → length b ≡ n → length c ≡ n → roomOf a b c ≡ n
+room-three a b c n e f g =
+    let h : n ≤ n = omega arith in
+    (λ t. min (e t) (min (f t) (g t))) ∙ ap (λ (k : ℕ). min n k) (min-eq-left h) ∙ min-eq-left h
+
+-- a search of columns that are cut at the room, with whatever stands behind the cuts
+pub filled : (s : List ℕ) (m p q allowance : ℕ) (w : List ℕ) (room n : ℕ) (r : Answer) (i j k a b c x y z : List ℕ)
+    → n ≡ min room mostNames
+    → r ≡ searchOf s m p q allowance w (roomOf a b c)
+    → i ≡ over (idColumn w (givenBy r (answersOf w m p q (featuresOf s)))) a
+    → j ≡ over (sharedColumn w (featuresOf s) (givenBy r (answersOf w m p q (featuresOf s)))) b
+    → k ≡ over (sizeColumn w (givenBy r (answersOf w m p q (featuresOf s)))) c
+    → length a ≡ n → length b ≡ n → length c ≡ n
+    → Filled s m p q allowance w room r (i ++ x) (j ++ y) (k ++ z)
+filled s m p q allowance w room n r i j k a b c x y z cut e ei ej ek la lb lc = record {
+  answer = right;
+  rows =
+      ap (λ (l : ℕ). rowsFrom l (i ++ x) (j ++ y) (k ++ z)) (comes .0)
+      ∙ (λ t. rowsFrom (length given) (ei t ++ x) (ej t ++ y) (ek t ++ z))
+      ∙ rows-columns w (featuresOf s) given (drop (length (idColumn w given)) a) (drop (length (sharedColumn w (featuresOf s) given)) b) (drop (length (sizeColumn w given)) c) x y z;
+  few = comes .2;
+  within = comes .1;
+}
+  where
+    given : List ℕ
+    given = givenBy r (answersOf w m p q (featuresOf s))
+
+    right : r ≡ searchOf s m p q allowance w room
+    right = e ∙ ap (λ (l : ℕ). searchOf s m p q allowance w l) (room-three a b c n la lb lc ∙ cut) ∙ room-enough s m p q allowance w room
+
+    comes : Outcome s m p q allowance w room r
+    comes = subst (Outcome s m p q allowance w room) (sym right) (outcome s m p q allowance w room)

@@ -1,0 +1,6 @@
+pub mod Lists
+pub mod Slices
+pub mod Arrays
+pub mod Answers
+pub mod Laws
+pub mod Cases

@@ -1,0 +1,45 @@
+-- Answer rows as records: the row of a name, the rows of an answer, and what a lent list of rows holds afterwards.
+-- What a search answers, and which names it gives, is in the crate `search`, specs/Answers.antt. Assumes nothing.
+use mathlib.Core.Path.{_≡_}
+use mathlib.Core.List.{List, _++_, map}
+use Prim.Native.Nat.{ℕ, _≤_}
+use lib.ListN.{length, getD, drop}
+use Rattle.laws.specs.Lists.{tabulate}
+use Rattle.names.specs.Features.{featuresOf}
+use Rattle.index.specs.Words.{nameId, nameSize}
+use Rattle.index.specs.Good.{mostNames}
+use Rattle.search.specs.Method.{sharedWith, answersOf}
+use Rattle.search.specs.Answers.{rowsIn, searchOf, givenBy}
+use Rattle.search.specs.declared.Answer.{Answer}
+use Rattle.rows.specs.declared.Row.{Row}
+
+-- ---- rows as the rule has them
+
+-- the row of the name at place i
+abbrev pub rowOf : List ℕ → List ℕ → ℕ → Row
+rowOf w query i = record { id = nameId w i; shared = sharedWith w query i; size = nameSize w i }
+
+-- the rows of the names at the places
+abbrev pub rowsOf : List ℕ → List ℕ → List ℕ → List Row
+rowsOf w query places = map (rowOf w query) places
+
+-- a lent list of rows afterwards: what is given, and behind it what stood there
+abbrev pub overRows : List Row → List Row → List Row
+overRows l s = l ++ drop (length l) s
+
+-- ---- rows as the columns hold them
+
+-- row k of the three columns; past the end of a column its field is 0
+abbrev pub rowAt : List ℕ → List ℕ → List ℕ → ℕ → Row
+rowAt ids shared sizes k = record { id = getD ids k 0; shared = getD shared k 0; size = getD sizes k 0 }
+
+-- the first n rows of the three columns
+abbrev pub rowsFrom : ℕ → List ℕ → List ℕ → List ℕ → List Row
+rowsFrom n ids shared sizes = tabulate (rowAt ids shared sizes) n
+
+-- the columns after a search with that room: its answer, and the columns' first rows, as many as it gives, are the given ones
+pub record Filled (query : List ℕ) (m p q allowance : ℕ) (w : List ℕ) (room : ℕ) (r : Answer) (ids shared sizes : List ℕ) : Type 0 where
+  pub answer : r ≡ searchOf query m p q allowance w room
+  pub rows : rowsFrom (rowsIn r) ids shared sizes ≡ rowsOf w (featuresOf query) (givenBy r (answersOf w m p q (featuresOf query)))
+  pub few : rowsIn r ≤ mostNames
+  pub within : rowsIn r ≤ room

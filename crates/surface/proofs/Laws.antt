@@ -1,0 +1,84 @@
+-- What a caller of the surface may rely on beyond the equations themselves: how far what it is told to read reaches, and what a refusal leaves
+-- alone. include/rushgirdle.h promises them. That a refused build sets every word is `refused-words` of the crate register; that a refused
+-- reading and a refused writing keep the buffer is `buffer-kept` and `out-kept` of the crate frames.
+-- Assumes nothing.
+use mathlib.Core.Path.{_≡_, refl}
+use mathlib.Core.Bool.{Bool, true, false, cond}
+use mathlib.Core.List.{List, [], map}
+use Prim.Native.Nat.{ℕ, _+_, _≤_}
+use native.Mathlib.Omega.{arith}
+use borrow.Author.Tests.{leb-true, ltb-false}
+use lib.ListN.{length}
+use lib.Dec.{eqb, leb, ltb}
+use Rattle.names.specs.Features.{featuresOf}
+use Rattle.likeness.specs.Terms.{lowestTerms}
+use Rattle.frames.specs.declared.Layout.{Layout}
+use Rattle.frames.specs.Layouts.{lineOf, readOf, writtenOf}
+use Rattle.frames.proofs.Layouts.{read-cases}
+use Rattle.index.specs.Good.{goodOf}
+use Rattle.index.specs.Part.{none}
+use Rattle.index.specs.Lists.{spanIn, spanFor}
+use Rattle.index.proofs.Spans.{span-within}
+use Rattle.search.specs.declared.Answer.{Answer}
+use Rattle.search.specs.declared.Answer.the-variants.{Found, Refused}
+use Rattle.search.specs.Method.{touchesOf, answersOf}
+use Rattle.search.specs.Answers.{rowsIn, touchesIn, refusalOf, searchGoodOf, searchOf, roomOf, over, givenBy}
+use Rattle.surface.specs.Flat.{listAnswer, searchAnswer, writeAnswer}
+
+-- a list lies within the words, whatever they are
+pub list-within : (w : List ℕ) (y f : ℕ) → listAnswer (spanFor w y f) .start + listAnswer (spanFor w y f) .count ≤ length w
+unfolding spanFor
+list-within w y f = by-test (goodOf w) refl
+  where
+    by-test : (g : Bool) → goodOf w ≡ g → cond g (spanIn w y f) none .start + cond g (spanIn w y f) none .count ≤ length w
+    by-test true e = span-within w e y f
+    by-test false e = omega arith
+
+-- the rows lie within the room
+module _ (query : List ℕ) (m p q allowance : ℕ) (w : List ℕ) (room : ℕ) where
+  abbrev found : Answer
+  found =
+      Found (length (answersOf w m p q (featuresOf query))) (touchesOf w m p q (featuresOf query)) (lowestTerms p q .p) (lowestTerms p q .q)
+
+  pub rows-within : searchAnswer (searchOf query m p q allowance w room) .rows ≤ room
+  unfolding searchOf searchGoodOf
+  rows-within =
+      by-test (eqb (refusalOf query m p q w) 0) (ltb allowance (touchesOf w m p q (featuresOf query))) (ltb room (rowsIn found)) refl
+    where
+      by-test : (a b c : Bool) → ltb room (rowsIn found) ≡ c
+          → rowsIn (cond a (cond b (Refused 7 allowance) (cond c (Refused 8 (touchesIn found)) found)) (Refused (refusalOf query m p q w) 0)) ≤ room
+      by-test false b c e = omega arith
+      by-test true true c e = omega arith
+      by-test true false true e = omega arith
+      by-test true false false e = ltb-false room (rowsIn found) e
+
+-- and so within each of the three columns
+pub columns-within : (query : List ℕ) (m p q allowance : ℕ) (w ids shared sizes : List ℕ)
+    → let r = searchAnswer (searchOf query m p q allowance w (roomOf ids shared sizes)) .rows in
+    (r ≤ length ids) × (r ≤ length shared) × (r ≤ length sizes)
+columns-within query m p q allowance w ids shared sizes =
+    let h = rows-within query m p q allowance w (roomOf ids shared sizes) in
+    (omega arith, omega arith, omega arith)
+
+-- a refused search keeps every column
+pub columns-kept : (a : Answer) → (searchAnswer a .number ≡ 0 → ⊥) → (value : ℕ → ℕ) (places column : List ℕ)
+    → over (map value (givenBy a places)) column ≡ column
+unfolding givenBy
+columns-kept (Found rows touches p q) n value places column = absurd (n refl)
+columns-kept (Refused number touches) n value places column = refl
+
+-- a name that was read lies within its buffer
+pub name-within : (y : Layout) (line : List ℕ) (room : ℕ) → readOf y line room .len ≤ room
+name-within y line room = read-cases y line room (λ r. r .len ≤ room) (λ e h. h) (λ e h. omega arith) (λ e. omega arith)
+
+-- a line that was written lies within its buffer
+pub line-within : (y : Layout) (f name : List ℕ) (room : ℕ) → writeAnswer (writtenOf y f name room) .len ≤ room
+unfolding writtenOf
+line-within y f name room = by-test (ltb 255 (length name)) (leb (length (lineOf y f name)) room) refl
+  where
+    by-test : (a b : Bool) → leb (length (lineOf y f name)) room ≡ b
+        → writeAnswer (cond a (record { number = 2; len = 0 }) (cond b (record { number = 0; len = length (lineOf y f name) }) (record { number = 8; len = 0 }))) .len
+        ≤ room
+    by-test true b e = omega arith
+    by-test false true e = leb-true _ _ e
+    by-test false false e = omega arith

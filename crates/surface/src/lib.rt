@@ -1,0 +1,347 @@
+// The functions for C, Rust and Python: include/rushgirdle.h declares them. Each passes on what a layer answers, in a flat struct, and its
+// contract cites that layer's own definitions. A slice crosses as a pointer and a length. Nothing is required of a caller beyond that.
+ghost use mathlib.Core.Path.{_≡_};
+ghost use mathlib.Core.List.{[], _∷_};
+ghost use lib.ListN.{length};
+ghost use Rattle.names.specs.Features.{featuresOf};
+ghost use Rattle.frames.specs.Layouts.{readOf, bufferOf, writtenOf, outOf};
+ghost use Rattle.frames.specs.Frames.{nameFrame, queryFrame, rowFrame, endFrame, refusalFrame};
+ghost use Rattle.index.specs.Good.{goodOf};
+ghost use Rattle.index.specs.Lists.{spanFor};
+ghost use Rattle.register.specs.Build.{builtOf, wordsAfter};
+ghost use Rattle.search.specs.Method.{answersOf};
+ghost use Rattle.search.specs.Answers.{over, roomOf, givenBy, idColumn, sharedColumn, sizeColumn, searchOf};
+ghost use Rattle.surface.specs.Flat.{buildAnswer, listAnswer, searchAnswer, writeAnswer, nameAnswer, queryAnswer, rowAnswer, endAnswer, refusalAnswer};
+
+// ---- the flat answers, each with its number first
+
+#[repr(C)]
+pub struct BuildAnswer {
+    pub number: u8,
+    pub line: u32,
+}
+
+#[repr(C)]
+pub struct ListAnswer {
+    pub start: usize,
+    pub count: usize,
+}
+
+#[repr(C)]
+pub struct SearchAnswer {
+    pub number: u8,
+    pub rows: u32,
+    pub touches: u32,
+    pub p: u16,
+    pub q: u16,
+}
+
+#[repr(C)]
+pub struct WriteAnswer {
+    pub number: u8,
+    pub len: usize,
+}
+
+#[repr(C)]
+pub struct NameAnswer {
+    pub number: u8,
+    pub id: u16,
+    pub len: usize,
+}
+
+#[repr(C)]
+pub struct QueryAnswer {
+    pub number: u8,
+    pub measure: u8,
+    pub p: u16,
+    pub q: u16,
+    pub allowance: u32,
+    pub len: usize,
+}
+
+#[repr(C)]
+pub struct RowAnswer {
+    pub number: u8,
+    pub id: u16,
+    pub shared: u8,
+    pub size: u8,
+}
+
+#[repr(C)]
+pub struct EndAnswer {
+    pub number: u8,
+    pub rows: u16,
+    pub touches: u32,
+    pub p: u16,
+    pub q: u16,
+}
+
+// The number of the reading, and the number that the frame says.
+#[repr(C)]
+pub struct RefusalAnswer {
+    pub number: u8,
+    pub refusal: u8,
+    pub touches: u32,
+}
+
+// ---- the index
+
+// Builds the index of a register in the words.
+#[no_mangle]
+pub extern "C" fn rushgirdle_build(register: &[u8], words: &mut [u32]) -> BuildAnswer
+    ensures { λ r. ⌜ r ≡ buildAnswer (builtOf (now (register .entry)) (length (now (words .entry)))) ⌝ }
+    ensures { λ _. ⌜ now (words .exit) ≡ wordsAfter (now (register .entry)) (now (words .entry)) ⌝ }
+{
+    let b = register::build(register, words);
+    BuildAnswer {
+        number: b.number,
+        line: b.line,
+    }
+}
+
+// Whether the words are a good index.
+#[no_mangle]
+pub extern "C" fn rushgirdle_good(words: &[u32]) -> bool
+    ensures { λ r. ⌜ r ≡ goodOf (now (words .entry)) ⌝ }
+{
+    index::good(words)
+}
+
+// Where the list of a size and a feature lies among the words: its first word and how many; 0 and 0 where no row exists or the index isn't good.
+#[no_mangle]
+pub extern "C" fn rushgirdle_list(words: &[u32], size: u32, feature: u64) -> ListAnswer
+    ensures { λ r. ⌜ r ≡ listAnswer (spanFor (now (words .entry)) size feature) ⌝ }
+{
+    if !index::good(words) {
+        return ListAnswer { start: 0, count: 0 };
+    }
+    let l = index::place_for_good(words, size, feature);
+    ListAnswer {
+        start: l.start,
+        count: l.count,
+    }
+}
+
+// The counted search. Row k of an answer is place k of each of the three columns.
+#[no_mangle]
+pub extern "C" fn rushgirdle_search(
+    query: &[u8],
+    measure: u8,
+    p: u16,
+    q: u16,
+    allowance: u32,
+    words: &[u32],
+    ids: &mut [u32],
+    shared: &mut [u32],
+    sizes: &mut [u32],
+) -> SearchAnswer
+    ensures { λ r. ⌜ r ≡ searchAnswer (searchOf (now (query .entry)) measure p q allowance (now (words .entry)) (roomOf (now (ids .entry)) (now (shared .entry)) (now (sizes .entry)))) ⌝ }
+    ensures { λ _. ⌜ now (ids .exit) ≡ over (idColumn (now (words .entry)) (givenBy (searchOf (now (query .entry)) measure p q allowance (now (words .entry)) (roomOf (now (ids .entry)) (now (shared .entry)) (now (sizes .entry)))) (answersOf (now (words .entry)) measure p q (featuresOf (now (query .entry)))))) (now (ids .entry)) ⌝ }
+    ensures { λ _. ⌜ now (shared .exit) ≡ over (sharedColumn (now (words .entry)) (featuresOf (now (query .entry))) (givenBy (searchOf (now (query .entry)) measure p q allowance (now (words .entry)) (roomOf (now (ids .entry)) (now (shared .entry)) (now (sizes .entry)))) (answersOf (now (words .entry)) measure p q (featuresOf (now (query .entry)))))) (now (shared .entry)) ⌝ }
+    ensures { λ _. ⌜ now (sizes .exit) ≡ over (sizeColumn (now (words .entry)) (givenBy (searchOf (now (query .entry)) measure p q allowance (now (words .entry)) (roomOf (now (ids .entry)) (now (shared .entry)) (now (sizes .entry)))) (answersOf (now (words .entry)) measure p q (featuresOf (now (query .entry)))))) (now (sizes .entry)) ⌝ }
+{
+    let a = search::search(query, measure, p, q, allowance, words, ids, shared, sizes);
+    match a {
+        search::Answer::Found {
+            rows,
+            touches,
+            p,
+            q,
+        } => SearchAnswer {
+            number: 0,
+            rows,
+            touches,
+            p,
+            q,
+        },
+        search::Answer::Refused { number: n, touches } => SearchAnswer {
+            number: n,
+            rows: 0,
+            touches,
+            p: 0,
+            q: 0,
+        },
+    }
+}
+
+// ---- the frames
+
+// Reads a 4E line, and puts the name at the start of the buffer.
+#[no_mangle]
+pub extern "C" fn rushgirdle_read_name(line: &[u8], name: &mut [u8]) -> NameAnswer
+    ensures { λ r. ⌜ r ≡ nameAnswer (readOf nameFrame (now (line .entry)) (length (now (name .entry)))) ⌝ }
+    ensures { λ _. ⌜ now (name .exit) ≡ bufferOf nameFrame (now (line .entry)) (now (name .entry)) ⌝ }
+{
+    let r = frames::read_name(line, name);
+    NameAnswer {
+        number: r.number,
+        id: r.id,
+        len: r.len,
+    }
+}
+
+// Reads a 51 line, and puts the query at the start of the buffer.
+#[no_mangle]
+pub extern "C" fn rushgirdle_read_query(line: &[u8], query: &mut [u8]) -> QueryAnswer
+    ensures { λ r. ⌜ r ≡ queryAnswer (readOf queryFrame (now (line .entry)) (length (now (query .entry)))) ⌝ }
+    ensures { λ _. ⌜ now (query .exit) ≡ bufferOf queryFrame (now (line .entry)) (now (query .entry)) ⌝ }
+{
+    let r = frames::read_query(line, query);
+    QueryAnswer {
+        number: r.number,
+        measure: r.measure,
+        p: r.p,
+        q: r.q,
+        allowance: r.allowance,
+        len: r.len,
+    }
+}
+
+// Reads a 52 line.
+#[no_mangle]
+pub extern "C" fn rushgirdle_read_row(line: &[u8]) -> RowAnswer
+    ensures { λ r. ⌜ r ≡ rowAnswer (readOf rowFrame (now (line .entry)) 0) ⌝ }
+{
+    let r = frames::read_row(line);
+    match r {
+        frames::RowRead::Row { id, shared, size } => RowAnswer {
+            number: 0,
+            id,
+            shared,
+            size,
+        },
+        frames::RowRead::Malformed => RowAnswer {
+            number: 11,
+            id: 0,
+            shared: 0,
+            size: 0,
+        },
+    }
+}
+
+// Reads a 45 line.
+#[no_mangle]
+pub extern "C" fn rushgirdle_read_end(line: &[u8]) -> EndAnswer
+    ensures { λ r. ⌜ r ≡ endAnswer (readOf endFrame (now (line .entry)) 0) ⌝ }
+{
+    let r = frames::read_end(line);
+    match r {
+        frames::EndRead::End {
+            rows,
+            touches,
+            p,
+            q,
+        } => EndAnswer {
+            number: 0,
+            rows,
+            touches,
+            p,
+            q,
+        },
+        frames::EndRead::Malformed => EndAnswer {
+            number: 11,
+            rows: 0,
+            touches: 0,
+            p: 0,
+            q: 0,
+        },
+    }
+}
+
+// Reads a 58 line.
+#[no_mangle]
+pub extern "C" fn rushgirdle_read_refusal(line: &[u8]) -> RefusalAnswer
+    ensures { λ r. ⌜ r ≡ refusalAnswer (readOf refusalFrame (now (line .entry)) 0) ⌝ }
+{
+    let r = frames::read_refusal(line);
+    match r {
+        frames::RefusalRead::Refusal { number, touches } => RefusalAnswer {
+            number: 0,
+            refusal: number,
+            touches,
+        },
+        frames::RefusalRead::Malformed => RefusalAnswer {
+            number: 11,
+            refusal: 0,
+            touches: 0,
+        },
+    }
+}
+
+// Writes a 4E line.
+#[no_mangle]
+pub extern "C" fn rushgirdle_write_name(out: &mut [u8], id: u16, name: &[u8]) -> WriteAnswer
+    ensures { λ r. ⌜ r ≡ writeAnswer (writtenOf nameFrame (id ∷ []) (now (name .entry)) (length (now (out .entry)))) ⌝ }
+    ensures { λ _. ⌜ now (out .exit) ≡ outOf nameFrame (id ∷ []) (now (name .entry)) (now (out .entry)) ⌝ }
+{
+    let w = frames::write_name(out, id, name);
+    WriteAnswer {
+        number: w.number,
+        len: w.len,
+    }
+}
+
+// Writes a 51 line.
+#[no_mangle]
+pub extern "C" fn rushgirdle_write_query(
+    out: &mut [u8],
+    measure: u8,
+    p: u16,
+    q: u16,
+    allowance: u32,
+    query: &[u8],
+) -> WriteAnswer
+    ensures { λ r. ⌜ r ≡ writeAnswer (writtenOf queryFrame (measure ∷ p ∷ q ∷ allowance ∷ []) (now (query .entry)) (length (now (out .entry)))) ⌝ }
+    ensures { λ _. ⌜ now (out .exit) ≡ outOf queryFrame (measure ∷ p ∷ q ∷ allowance ∷ []) (now (query .entry)) (now (out .entry)) ⌝ }
+{
+    let w = frames::write_query(out, measure, p, q, allowance, query);
+    WriteAnswer {
+        number: w.number,
+        len: w.len,
+    }
+}
+
+// Writes a 52 line.
+#[no_mangle]
+pub extern "C" fn rushgirdle_write_row(out: &mut [u8], id: u16, shared: u8, size: u8) -> WriteAnswer
+    ensures { λ r. ⌜ r ≡ writeAnswer (writtenOf rowFrame (id ∷ shared ∷ size ∷ []) [] (length (now (out .entry)))) ⌝ }
+    ensures { λ _. ⌜ now (out .exit) ≡ outOf rowFrame (id ∷ shared ∷ size ∷ []) [] (now (out .entry)) ⌝ }
+{
+    let w = frames::write_row(out, id, shared, size);
+    WriteAnswer {
+        number: w.number,
+        len: w.len,
+    }
+}
+
+// Writes a 45 line.
+#[no_mangle]
+pub extern "C" fn rushgirdle_write_end(
+    out: &mut [u8],
+    rows: u16,
+    touches: u32,
+    p: u16,
+    q: u16,
+) -> WriteAnswer
+    ensures { λ r. ⌜ r ≡ writeAnswer (writtenOf endFrame (rows ∷ touches ∷ p ∷ q ∷ []) [] (length (now (out .entry)))) ⌝ }
+    ensures { λ _. ⌜ now (out .exit) ≡ outOf endFrame (rows ∷ touches ∷ p ∷ q ∷ []) [] (now (out .entry)) ⌝ }
+{
+    let w = frames::write_end(out, rows, touches, p, q);
+    WriteAnswer {
+        number: w.number,
+        len: w.len,
+    }
+}
+
+// Writes a 58 line.
+#[no_mangle]
+pub extern "C" fn rushgirdle_write_refusal(out: &mut [u8], number: u8, touches: u32) -> WriteAnswer
+    ensures { λ r. ⌜ r ≡ writeAnswer (writtenOf refusalFrame (number ∷ touches ∷ []) [] (length (now (out .entry)))) ⌝ }
+    ensures { λ _. ⌜ now (out .exit) ≡ outOf refusalFrame (number ∷ touches ∷ []) [] (now (out .entry)) ⌝ }
+{
+    let w = frames::write_refusal(out, number, touches);
+    WriteAnswer {
+        number: w.number,
+        len: w.len,
+    }
+}

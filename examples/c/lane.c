@@ -1,0 +1,46 @@
+/* Which of three registered names are like LANE? The same as examples/python/lane.py, which prints the same.
+ *
+ *   rt staticlib surface
+ *   gcc -Iinclude -o target/lane examples/c/lane.c target/staticlib/libsurface.a
+ *   target/lane
+ */
+#include <stdio.h>
+#include <string.h>
+
+#include "rushgirdle.h"
+
+static const char lines[] =
+    "4E000A044C414E45\n"    /* 10: LANE */
+    "4E000B054C414E4553\n"  /* 11: LANES */
+    "4E000C05504C414E45\n"; /* 12: PLANE */
+
+static uint32_t words[RUSHGIRDLE_MOST_WORDS];
+
+static void look_up(const char *query, uint32_t allowance)
+{
+    uint32_t ids[RUSHGIRDLE_MOST_NAMES];
+    uint32_t shared[RUSHGIRDLE_MOST_NAMES];
+    uint32_t sizes[RUSHGIRDLE_MOST_NAMES];
+    rushgirdle_search_answer found = rushgirdle_search(
+        (const uint8_t *)query, strlen(query), RUSHGIRDLE_DICE, 8, 13, allowance,
+        words, RUSHGIRDLE_MOST_WORDS,
+        ids, RUSHGIRDLE_MOST_NAMES, shared, RUSHGIRDLE_MOST_NAMES, sizes, RUSHGIRDLE_MOST_NAMES);
+    printf("%s, Dice 8/13, allowance %u: number %u\n", query, (unsigned)allowance, (unsigned)found.number);
+    for (uint32_t k = 0; k < found.rows; k++)
+        printf("id %u shared %u size %u\n", (unsigned)ids[k], (unsigned)shared[k], (unsigned)sizes[k]);
+    printf("rows %u touches %u threshold %u/%u\n",
+           (unsigned)found.rows, (unsigned)found.touches, (unsigned)found.p, (unsigned)found.q);
+}
+
+int main(void)
+{
+    rushgirdle_build_answer built = rushgirdle_build(
+        (const uint8_t *)lines, strlen(lines), words, RUSHGIRDLE_MOST_WORDS);
+    if (built.number != RUSHGIRDLE_ANSWERED) {
+        printf("line %u is refused with %u\n", (unsigned)built.line, (unsigned)built.number);
+        return 1;
+    }
+    look_up("LANE", 15);
+    look_up("LANE", 14);
+    return 0;
+}

@@ -1,0 +1,206 @@
+/* Rushgirdle for C: which registered names are like this one?
+ *
+ * The functions of target/staticlib/libsurface.a, which `rt staticlib surface` makes from proved code, for x86-64 Linux. The rule that they
+ * follow is docs/RULE.md. Every call ends, whatever it is given, and answers with number 0 or with a refusal.
+ *
+ * What a caller owes
+ *   A slice is a pointer and how many elements stand there, at most PTRDIFF_MAX bytes in all.
+ *   - Where the length is above 0, every element can be read, and written where the pointer is not to const, for the whole call.
+ *   - Where the length is 0, the pointer may be NULL; nothing is read or written through it.
+ *   - A pointer to uint32_t is aligned to 4 bytes.
+ *   - What is lent to be written overlaps nothing else that is lent to the same call, and no other thread looks at it or writes it meanwhile.
+ *     What is lent as const may overlap other const, and no thread writes it meanwhile.
+ *   - rushgirdle_build needs 300 KB of stack, every other function 16 KB.
+ *   Nothing checks these: a call that breaks one has no promise. Every value of every other parameter is taken.
+ *
+ * What is promised
+ *   - The number, every field, and every lent element afterwards are fixed by the rule. Nothing but the lent elements is written.
+ *   - What an answer tells a caller to read lies within what was lent: start + count is at most the number of words, rows at most the length of
+ *     each column, len at most the length of the buffer.
+ *   - A refused search writes no row, a refused read no byte of the name, a refused write no byte of the line. A refused build sets every word
+ *     to 4294967295.
+ *   - No memory is taken, no pointer is kept, nothing is remembered from call to call: any number of threads may call at once.
+ */
+#ifndef RUSHGIRDLE_H
+#define RUSHGIRDLE_H
+
+#include <stdbool.h>
+#include <stddef.h>
+#include <stdint.h>
+
+#ifdef __cplusplus
+extern "C" {
+#endif
+
+/* The numbers that a caller can get. */
+enum rushgirdle_number {
+    RUSHGIRDLE_ANSWERED = 0,
+    RUSHGIRDLE_EMPTY = 1,      /* the name or query is empty */
+    RUSHGIRDLE_LONG = 2,       /* it is longer than 64 bytes; frame writer: longer than 255 */
+    RUSHGIRDLE_ZERO_BYTE = 3,  /* it holds a 0 byte */
+    RUSHGIRDLE_MEASURE = 4,    /* the measure is not 1 to 4 */
+    RUSHGIRDLE_THRESHOLD = 5,  /* not 1 <= p <= q <= 1000 */
+    RUSHGIRDLE_NOT_GOOD = 6,   /* the words are no good index */
+    RUSHGIRDLE_ALLOWANCE = 7,  /* the touches needed exceed the allowance */
+    RUSHGIRDLE_ROOM = 8,       /* search: more answers than rows lent; build: the index exceeds the words; frames: the line or the name exceeds its buffer */
+    RUSHGIRDLE_ORDER = 9,      /* a register id is not above the one before */
+    RUSHGIRDLE_FULL = 10,      /* a 257th name */
+    RUSHGIRDLE_MALFORMED = 11  /* not a frame of the kind that was asked for */
+};
+
+/* The measures. */
+enum rushgirdle_measure {
+    RUSHGIRDLE_DICE = 1,
+    RUSHGIRDLE_JACCARD = 2,
+    RUSHGIRDLE_COSINE = 3,
+    RUSHGIRDLE_OVERLAP = 4
+};
+
+#define RUSHGIRDLE_MOST_NAMES 256    /* so many rows are enough for every search */
+#define RUSHGIRDLE_MOST_WORDS 84739  /* so many words are enough for every register: 3 + 256 + 4 * 16896 + 16896 */
+#define RUSHGIRDLE_LONGEST_NAME 255  /* so many bytes are enough for every name or query that is read from a line */
+#define RUSHGIRDLE_LONGEST_LINE 533  /* so many bytes are enough for every line that is written, its line feed included */
+
+/* ---- the index */
+
+typedef struct {
+    uint8_t number;  /* 0, or in this order for the first bad line 11, 1, 2, 3, 9, 10, then for the whole 8 */
+    uint32_t line;   /* the bad line, counted from 1; 0 after 0 and after 8 */
+} rushgirdle_build_answer;
+
+/* Builds the index of a register: the bytes of 4E lines, in order. Where it answers 0, the words are the index, and behind it 4294967295 to the
+ * end; otherwise every word is 4294967295, which no search takes for an index. Its cost grows with the length of the register. */
+rushgirdle_build_answer rushgirdle_build(
+    const uint8_t *register_bytes, size_t register_length,
+    uint32_t *words, size_t words_length);
+
+/* Whether the words are a good index, whatever they are. Words beyond the index are not looked at. */
+bool rushgirdle_good(const uint32_t *words, size_t words_length);
+
+typedef struct {
+    size_t start;  /* the list's first word is words[start] */
+    size_t count;  /* and it has so many */
+} rushgirdle_list_answer;
+
+/* Where the list of a size and a feature lies among the words: the ids, ascending, of the names of that size that have the feature. start 0 and
+ * count 0 where there is no such list or the index is not good; a list that is there has a count of at least 1. Checks the index each time. */
+rushgirdle_list_answer rushgirdle_list(
+    const uint32_t *words, size_t words_length,
+    uint32_t size, uint64_t feature);
+
+typedef struct {
+    uint8_t number;    /* 0, or the first that holds of 1, 2, 3, 4, 5, 6, 7, 8 */
+    uint32_t rows;     /* how many rows were written; 0 where refused */
+    uint32_t touches;  /* the touches made: all after 0 and 8, the allowance after 7, 0 after 1 to 6 */
+    uint16_t p;        /* the threshold p/q in lowest terms; 0/0 where refused */
+    uint16_t q;
+} rushgirdle_search_answer;
+
+/* The names that are like the query by the measure and the threshold p/q, within the allowance of touches. Row k of the answer is ids[k],
+ * shared[k], sizes[k]: the name's id, how many features it shares with the query, and its own size; by ascending id. The rows lent are as many
+ * as the shortest of the three columns has places; those beyond the answer keep their contents, all of them where it is refused. Checks the
+ * index each time. */
+rushgirdle_search_answer rushgirdle_search(
+    const uint8_t *query, size_t query_length,
+    uint8_t measure, uint16_t p, uint16_t q, uint32_t allowance,
+    const uint32_t *words, size_t words_length,
+    uint32_t *ids, size_t ids_length,
+    uint32_t *shared, size_t shared_length,
+    uint32_t *sizes, size_t sizes_length);
+
+/* ---- frames: reading
+ *
+ * A line has to be exactly one frame of its kind: upper-case hexadecimal pairs and one line feed, which is part of the line. Otherwise 11; then
+ * 8 where the name does not fit its buffer. A refused read has 0 in every field and leaves the buffer as it was; otherwise the name stands at
+ * the buffer's start, and the bytes behind it keep their contents. Fields are not judged: every value that fits its bytes is taken. */
+
+typedef struct {
+    uint8_t number;
+    uint16_t id;
+    size_t len;  /* the bytes of the name, 0 to 255 */
+} rushgirdle_name_answer;
+
+/* 4E: a registered name */
+rushgirdle_name_answer rushgirdle_read_name(
+    const uint8_t *line, size_t line_length,
+    uint8_t *name, size_t name_length);
+
+typedef struct {
+    uint8_t number;
+    uint8_t measure;
+    uint16_t p;
+    uint16_t q;
+    uint32_t allowance;
+    size_t len;  /* the bytes of the query, 0 to 255 */
+} rushgirdle_query_answer;
+
+/* 51: a query */
+rushgirdle_query_answer rushgirdle_read_query(
+    const uint8_t *line, size_t line_length,
+    uint8_t *query, size_t query_length);
+
+typedef struct {
+    uint8_t number;
+    uint16_t id;
+    uint8_t shared;
+    uint8_t size;
+} rushgirdle_row_answer;
+
+/* 52: a row of an answer */
+rushgirdle_row_answer rushgirdle_read_row(const uint8_t *line, size_t line_length);
+
+typedef struct {
+    uint8_t number;
+    uint16_t rows;
+    uint32_t touches;
+    uint16_t p;
+    uint16_t q;
+} rushgirdle_end_answer;
+
+/* 45: the end of an answer */
+rushgirdle_end_answer rushgirdle_read_end(const uint8_t *line, size_t line_length);
+
+typedef struct {
+    uint8_t number;   /* of this reading */
+    uint8_t refusal;  /* the number that the frame holds */
+    uint32_t touches;
+} rushgirdle_refusal_answer;
+
+/* 58: a refusal */
+rushgirdle_refusal_answer rushgirdle_read_refusal(const uint8_t *line, size_t line_length);
+
+/* ---- frames: writing
+ *
+ * Writes the line, its line feed included, at the start of out; the bytes behind it keep their contents. The fields are written as given. 2
+ * where a name or query is longer than 255 bytes, then 8 where the line does not fit; a refused write leaves out as it was. */
+
+typedef struct {
+    uint8_t number;
+    size_t len;  /* the bytes written; 0 where refused */
+} rushgirdle_write_answer;
+
+rushgirdle_write_answer rushgirdle_write_name(
+    uint8_t *out, size_t out_length,
+    uint16_t id, const uint8_t *name, size_t name_length);
+
+rushgirdle_write_answer rushgirdle_write_query(
+    uint8_t *out, size_t out_length,
+    uint8_t measure, uint16_t p, uint16_t q, uint32_t allowance, const uint8_t *query, size_t query_length);
+
+rushgirdle_write_answer rushgirdle_write_row(
+    uint8_t *out, size_t out_length,
+    uint16_t id, uint8_t shared, uint8_t size);
+
+rushgirdle_write_answer rushgirdle_write_end(
+    uint8_t *out, size_t out_length,
+    uint16_t rows, uint32_t touches, uint16_t p, uint16_t q);
+
+rushgirdle_write_answer rushgirdle_write_refusal(
+    uint8_t *out, size_t out_length,
+    uint8_t number, uint32_t touches);
+
+#ifdef __cplusplus
+}
+#endif
+
+#endif

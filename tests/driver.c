@@ -1,0 +1,413 @@
+/* The proved library behind the second program's protocols (second/README.md): one case a line in, one line out.
+ *
+ *     driver good|list|build|search|frames
+ *
+ * What is lent stands between two guards and is filled before the call; what is only read is compared with a copy
+ * after it. A touched guard or a changed input ends the program with status 3, a line that does not follow its
+ * protocol with status 2. An empty slice is passed as a null pointer. */
+#include <stdint.h>
+#include <stdio.h>
+#include <stdlib.h>
+#include <string.h>
+
+#include "rushgirdle.h"
+
+enum { LENT = 0xA5, LENT_FIELD = 165, GUARD = 64, GUARD_BYTE = 0x5C };
+
+static size_t line_number = 0;
+
+static _Noreturn void refuse(const char *what)
+{
+    fprintf(stderr, "line %zu: %s\n", line_number, what);
+    exit(2);
+}
+
+static _Noreturn void broken(const char *what)
+{
+    fprintf(stderr, "line %zu: %s\n", line_number, what);
+    exit(3);
+}
+
+static void *room_for(size_t bytes)
+{
+    void *at = malloc(bytes ? bytes : 1);
+    if (!at) {
+        fputs("no memory\n", stderr);
+        exit(4);
+    }
+    return at;
+}
+
+/* ---- slices: a part of a block with a guard on each side, and a copy for those that are only read */
+
+struct slice {
+    unsigned char *block, *copy;
+    size_t bytes;
+};
+
+static struct slice slice_of(size_t bytes, int fill)
+{
+    struct slice s = { room_for(bytes + 2 * GUARD), NULL, bytes };
+    memset(s.block, GUARD_BYTE, bytes + 2 * GUARD);
+    memset(s.block + GUARD, fill, bytes);
+    return s;
+}
+
+/* The part itself: null where it is empty. */
+static void *part(const struct slice *s)
+{
+    return s->bytes ? s->block + GUARD : NULL;
+}
+
+/* From here on the slice is only to be read. */
+static void keep(struct slice *s)
+{
+    s->copy = room_for(s->bytes);
+    memcpy(s->copy, s->block + GUARD, s->bytes);
+}
+
+static void check_slice(const struct slice *s)
+{
+    for (size_t at = 0; at < GUARD; at++)
+        if (s->block[at] != GUARD_BYTE || s->block[GUARD + s->bytes + at] != GUARD_BYTE)
+            broken("a byte beside a lent slice was written");
+    if (s->copy && memcmp(s->copy, s->block + GUARD, s->bytes))
+        broken("a slice that is only read was written");
+}
+
+static void drop(struct slice *s)
+{
+    free(s->block);
+    free(s->copy);
+}
+
+/* ---- the words of a case */
+
+static char *rest;
+
+static char *word(const char *what)
+{
+    while (*rest == ' ')
+        rest++;
+    if (!*rest)
+        refuse(what);
+    char *at = rest;
+    while (*rest && *rest != ' ')
+        rest++;
+    if (*rest)
+        *rest++ = 0;
+    return at;
+}
+
+static int digit(char c)
+{
+    if ('0' <= c && c <= '9')
+        return c - '0';
+    if ('A' <= c && c <= 'F')
+        return c - 'A' + 10;
+    return 'a' <= c && c <= 'f' ? c - 'a' + 10 : 99;
+}
+
+/* A number in decimal, or in hexadecimal after 0x. */
+static uint64_t number(const char *what, uint64_t most)
+{
+    const char *at = word(what);
+    uint64_t base = 10, value = 0;
+    if (at[0] == '0' && at[1] == 'x') {
+        base = 16;
+        at += 2;
+    }
+    if (!*at)
+        refuse(what);
+    for (; *at; at++) {
+        uint64_t d = (uint64_t)digit(*at);
+        if (d >= base || value > (most - d) / base)
+            refuse(what);
+        value = value * base + d;
+    }
+    return value;
+}
+
+/* Bytes as hexadecimal pairs, or - for none. */
+static struct slice bytes(const char *what)
+{
+    const char *at = word(what);
+    if (!strcmp(at, "-"))
+        at = "";
+    size_t digits = strlen(at);
+    if (digits % 2)
+        refuse(what);
+    struct slice s = slice_of(digits / 2, 0);
+    for (size_t i = 0; i < s.bytes; i++) {
+        int high = digit(at[2 * i]), low = digit(at[2 * i + 1]);
+        if (high > 15 || low > 15)
+            refuse(what);
+        s.block[GUARD + i] = (unsigned char)(high * 16 + low);
+    }
+    keep(&s);
+    return s;
+}
+
+/* All words that are left, as the 32-bit words of a slice. */
+static struct slice words(void)
+{
+    size_t count = 0;
+    for (const char *at = rest; *at;) {
+        while (*at == ' ')
+            at++;
+        count += *at != 0;
+        while (*at && *at != ' ')
+            at++;
+    }
+    struct slice s = slice_of(count * sizeof(uint32_t), 0);
+    uint32_t *into = (uint32_t *)(s.block + GUARD);
+    for (size_t i = 0; i < count; i++)
+        into[i] = (uint32_t)number("word", UINT32_MAX);
+    keep(&s);
+    return s;
+}
+
+static void end(void)
+{
+    while (*rest == ' ')
+        rest++;
+    if (*rest)
+        refuse("one word too many");
+}
+
+static void print_bytes(const struct slice *s)
+{
+    putchar(' ');
+    if (!s->bytes)
+        putchar('-');
+    for (size_t i = 0; i < s->bytes; i++)
+        printf("%02X", s->block[GUARD + i]);
+    putchar('\n');
+}
+
+/* ---- the kinds */
+
+static void good(void)
+{
+    struct slice index = words();
+    end();
+    printf("%d\n", rushgirdle_good(part(&index), index.bytes / 4) ? 1 : 0);
+    check_slice(&index);
+    drop(&index);
+}
+
+static void list(void)
+{
+    uint32_t size = (uint32_t)number("size", UINT32_MAX);
+    uint64_t feature = number("feature", UINT32_MAX);
+    struct slice index = words();
+    end();
+    rushgirdle_list_answer a = rushgirdle_list(part(&index), index.bytes / 4, size, feature);
+    check_slice(&index);
+    printf("%zu %zu", (size_t)a.start, (size_t)a.count);
+    if (a.start > index.bytes / 4 || a.count > index.bytes / 4 - a.start)
+        broken("a list beyond its words");
+    for (size_t i = 0; i < a.count; i++)
+        printf(" %u", ((uint32_t *)part(&index))[a.start + i]);
+    putchar('\n');
+    drop(&index);
+}
+
+static void build(void)
+{
+    size_t room = (size_t)number("length", SIZE_MAX / 8);
+    struct slice lines = bytes("register"), index = slice_of(room * sizeof(uint32_t), LENT);
+    end();
+    rushgirdle_build_answer a = rushgirdle_build(part(&lines), lines.bytes, part(&index), room);
+    check_slice(&lines);
+    check_slice(&index);
+    printf("%u %u", (unsigned)a.number, (unsigned)a.line);
+    for (size_t i = 0; i < room; i++)
+        printf(" %u", ((uint32_t *)part(&index))[i]);
+    putchar('\n');
+    drop(&lines);
+    drop(&index);
+}
+
+/* A column of answers, each place filled. */
+static struct slice column(size_t room)
+{
+    struct slice s = slice_of(room * sizeof(uint32_t), 0);
+    for (size_t i = 0; i < room; i++)
+        ((uint32_t *)part(&s))[i] = LENT_FIELD;
+    return s;
+}
+
+static void search(void)
+{
+    uint8_t measure = (uint8_t)number("measure", UINT8_MAX);
+    uint16_t p = (uint16_t)number("p", UINT16_MAX), q = (uint16_t)number("q", UINT16_MAX);
+    uint32_t allowance = (uint32_t)number("allowance", UINT32_MAX);
+    size_t room = (size_t)number("room", SIZE_MAX / 8);
+    struct slice query = bytes("query"), index = words();
+    end();
+    struct slice ids = column(room), shared = column(room), sizes = column(room);
+    rushgirdle_search_answer a =
+        rushgirdle_search(part(&query), query.bytes, measure, p, q, allowance, part(&index), index.bytes / 4,
+                          part(&ids), room, part(&shared), room, part(&sizes), room);
+    struct slice *lent[] = { &query, &index, &ids, &shared, &sizes };
+    for (size_t i = 0; i < sizeof lent / sizeof *lent; i++)
+        check_slice(lent[i]);
+    printf("%u %u %u %u %u", (unsigned)a.number, (unsigned)a.rows, (unsigned)a.touches, (unsigned)a.p, (unsigned)a.q);
+    for (size_t i = 0; i < room; i++)
+        printf(" %u:%u:%u", ((uint32_t *)part(&ids))[i], ((uint32_t *)part(&shared))[i],
+               ((uint32_t *)part(&sizes))[i]);
+    putchar('\n');
+    for (size_t i = 0; i < sizeof lent / sizeof *lent; i++)
+        drop(lent[i]);
+}
+
+static void read_frame(unsigned kind, struct slice *buffer)
+{
+    struct slice line = bytes("line");
+    const uint8_t *at = part(&line);
+    size_t length = line.bytes;
+    switch (kind) {
+    case 0x4E: {
+        rushgirdle_name_answer a = rushgirdle_read_name(at, length, part(buffer), buffer->bytes);
+        printf("%u %u %zu", (unsigned)a.number, (unsigned)a.id, (size_t)a.len);
+        break;
+    }
+    case 0x51: {
+        rushgirdle_query_answer a = rushgirdle_read_query(at, length, part(buffer), buffer->bytes);
+        printf("%u %u %u %u %u %zu", (unsigned)a.number, (unsigned)a.measure, (unsigned)a.p, (unsigned)a.q,
+               (unsigned)a.allowance, (size_t)a.len);
+        break;
+    }
+    case 0x52: {
+        rushgirdle_row_answer a = rushgirdle_read_row(at, length);
+        printf("%u %u %u %u", (unsigned)a.number, (unsigned)a.id, (unsigned)a.shared, (unsigned)a.size);
+        break;
+    }
+    case 0x45: {
+        rushgirdle_end_answer a = rushgirdle_read_end(at, length);
+        printf("%u %u %u %u %u", (unsigned)a.number, (unsigned)a.rows, (unsigned)a.touches, (unsigned)a.p,
+               (unsigned)a.q);
+        break;
+    }
+    case 0x58: {
+        rushgirdle_refusal_answer a = rushgirdle_read_refusal(at, length);
+        printf("%u %u %u", (unsigned)a.number, (unsigned)a.refusal, (unsigned)a.touches);
+        break;
+    }
+    default:
+        refuse("no such kind");
+    }
+    check_slice(&line);
+    drop(&line);
+}
+
+static void write_frame(unsigned kind, struct slice *buffer)
+{
+    uint8_t *out = part(buffer);
+    size_t room = buffer->bytes;
+    struct slice name = slice_of(0, 0);
+    rushgirdle_write_answer a;
+    switch (kind) {
+    case 0x4E: {
+        uint16_t id = (uint16_t)number("id", UINT16_MAX);
+        drop(&name);
+        name = bytes("name");
+        a = rushgirdle_write_name(out, room, id, part(&name), name.bytes);
+        break;
+    }
+    case 0x51: {
+        uint8_t measure = (uint8_t)number("measure", UINT8_MAX);
+        uint16_t p = (uint16_t)number("p", UINT16_MAX), q = (uint16_t)number("q", UINT16_MAX);
+        uint32_t allowance = (uint32_t)number("allowance", UINT32_MAX);
+        drop(&name);
+        name = bytes("query");
+        a = rushgirdle_write_query(out, room, measure, p, q, allowance, part(&name), name.bytes);
+        break;
+    }
+    case 0x52: {
+        uint16_t id = (uint16_t)number("id", UINT16_MAX);
+        uint8_t shared = (uint8_t)number("shared", UINT8_MAX), size = (uint8_t)number("size", UINT8_MAX);
+        a = rushgirdle_write_row(out, room, id, shared, size);
+        break;
+    }
+    case 0x45: {
+        uint16_t rows = (uint16_t)number("rows", UINT16_MAX);
+        uint32_t touches = (uint32_t)number("touches", UINT32_MAX);
+        uint16_t p = (uint16_t)number("p", UINT16_MAX), q = (uint16_t)number("q", UINT16_MAX);
+        a = rushgirdle_write_end(out, room, rows, touches, p, q);
+        break;
+    }
+    case 0x58: {
+        uint8_t refusal = (uint8_t)number("number", UINT8_MAX);
+        uint32_t touches = (uint32_t)number("touches", UINT32_MAX);
+        a = rushgirdle_write_refusal(out, room, refusal, touches);
+        break;
+    }
+    default:
+        refuse("no such kind");
+    }
+    check_slice(&name);
+    drop(&name);
+    printf("%u %zu", (unsigned)a.number, (size_t)a.len);
+}
+
+static void frames(void)
+{
+    const char *way = word("read or write");
+    struct slice kind = bytes("kind"), buffer = slice_of((size_t)number("room", SIZE_MAX / 8), LENT);
+    if (kind.bytes != 1)
+        refuse("no such kind");
+    if (!strcmp(way, "read"))
+        read_frame(kind.block[GUARD], &buffer);
+    else if (!strcmp(way, "write"))
+        write_frame(kind.block[GUARD], &buffer);
+    else
+        refuse("neither read nor write");
+    end();
+    check_slice(&buffer);
+    print_bytes(&buffer);
+    drop(&kind);
+    drop(&buffer);
+}
+
+/* ---- standard input, line by line */
+
+static char *read_all(void)
+{
+    size_t length = 0, room = 1 << 16;
+    char *text = room_for(room);
+    for (size_t got; (got = fread(text + length, 1, room - 1 - length, stdin)) > 0;) {
+        length += got;
+        if (length == room - 1 && !(text = realloc(text, room *= 2)))
+            exit(4);
+    }
+    text[length] = 0;
+    return text;
+}
+
+int main(int count, char **given)
+{
+    static const struct { const char *name; void (*answer)(void); } kinds[] = {
+        { "good", good }, { "list", list }, { "build", build }, { "search", search }, { "frames", frames },
+    };
+    for (size_t k = 0; count == 2 && k < sizeof kinds / sizeof *kinds; k++) {
+        if (strcmp(given[1], kinds[k].name))
+            continue;
+        char *text = read_all();
+        for (char *line = text, *next; *line; line = next) {
+            next = strchr(line, '\n');
+            if (next)
+                *next++ = 0;
+            else
+                next = line + strlen(line);
+            line_number++;
+            rest = line;
+            kinds[k].answer();
+        }
+        free(text);
+        return fflush(stdout) ? 4 : 0;
+    }
+    fputs("usage: driver good|list|build|search|frames\n", stderr);
+    return 2;
+}

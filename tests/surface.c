@@ -1,0 +1,468 @@
+/* Every function of include/rushgirdle.h, at the edges: each number from 0 to 11, every field, every lent element before, in and behind what is
+ * written, and NULL with length 0; then once more with every slice just before memory that cannot be touched. What is expected was worked out by
+ * hand from docs/RULE.md. Prints what fails, and at the end 'N passed, M failed'. */
+#define _DEFAULT_SOURCE
+#include <stdio.h>
+#include <string.h>
+#include <sys/mman.h>
+#include <unistd.h>
+
+#include "rushgirdle.h"
+
+static unsigned passed, failed;
+
+static void expect(int held, const char *what, int line)
+{
+    if (held) {
+        passed++;
+    } else {
+        failed++;
+        printf("FAILED: tests/surface.c:%d: %s\n", line, what);
+    }
+}
+
+#define EXPECT(held) expect((held), #held, __LINE__)
+
+#define BLANK 4294967295u
+#define KEPT 2779096485u /* A5A5A5A5, what stands in a word that is lent */
+#define ROOM 64
+
+static uint32_t words[90000];
+
+static void fill_words(uint32_t *w, size_t n)
+{
+    for (size_t i = 0; i < n; i++)
+        w[i] = KEPT;
+}
+
+static int all_words(const uint32_t *w, size_t from, size_t to, uint32_t value)
+{
+    for (size_t i = from; i < to; i++)
+        if (w[i] != value)
+            return 0;
+    return 1;
+}
+
+static int all_bytes(const uint8_t *b, size_t from, size_t to, uint8_t value)
+{
+    for (size_t i = from; i < to; i++)
+        if (b[i] != value)
+            return 0;
+    return 1;
+}
+
+static rushgirdle_build_answer build(const char *text, size_t room)
+{
+    fill_words(words, ROOM);
+    return rushgirdle_build((const uint8_t *)text, strlen(text), words, room);
+}
+
+/* ---- the index */
+
+/* A under 1 and 2: grams 00 00 41, 00 41 00, 41 00 00, so features 65*256+1, 65*65536+1, 65*16777216+1, and size 3 */
+static const char two_lines[] = "4E00010141\n4E00020141\n";
+static const uint32_t two_words[23] = {
+    2, 3, 6,
+    259, 515,
+    3, 16641, 0, 2,
+    3, 4259841, 2, 2,
+    3, 1090519041, 4, 2,
+    1, 2, 1, 2, 1, 2};
+
+static void test_build(void)
+{
+    rushgirdle_build_answer b = build(two_lines, 25);
+    EXPECT(b.number == 0 && b.line == 0);
+    EXPECT(memcmp(words, two_words, sizeof two_words) == 0);
+    EXPECT(all_words(words, 23, 25, BLANK));
+    EXPECT(all_words(words, 25, ROOM, KEPT));
+    b = build(two_lines, 23);
+    EXPECT(b.number == 0 && b.line == 0 && memcmp(words, two_words, sizeof two_words) == 0);
+    EXPECT(all_words(words, 23, ROOM, KEPT));
+    b = build(two_lines, 22);
+    EXPECT(b.number == 8 && b.line == 0);
+    EXPECT(all_words(words, 0, 22, BLANK) && all_words(words, 22, ROOM, KEPT));
+
+    /* an empty register: three words 0 */
+    b = build("", 5);
+    EXPECT(b.number == 0 && b.line == 0);
+    EXPECT(all_words(words, 0, 3, 0) && all_words(words, 3, 5, BLANK) && all_words(words, 5, ROOM, KEPT));
+    fill_words(words, ROOM);
+    b = rushgirdle_build(NULL, 0, words, 3);
+    EXPECT(b.number == 0 && b.line == 0 && all_words(words, 0, 3, 0) && all_words(words, 3, ROOM, KEPT));
+    fill_words(words, ROOM);
+    b = rushgirdle_build(NULL, 0, words, 2);
+    EXPECT(b.number == 8 && b.line == 0 && all_words(words, 0, 2, BLANK) && all_words(words, 2, ROOM, KEPT));
+    b = rushgirdle_build(NULL, 0, NULL, 0);
+    EXPECT(b.number == 8 && b.line == 0);
+    b = rushgirdle_build((const uint8_t *)two_lines, strlen(two_lines), NULL, 0);
+    EXPECT(b.number == 8 && b.line == 0);
+
+    /* the first bad line decides */
+    b = build("4E00010141\n4E00020141", 30);
+    EXPECT(b.number == 11 && b.line == 2);
+    EXPECT(all_words(words, 0, 30, BLANK) && all_words(words, 30, ROOM, KEPT));
+    b = build("4E00010141\n\n", 30);
+    EXPECT(b.number == 11 && b.line == 2);
+    b = build("4e00010141\n4E00020141\n", 30);
+    EXPECT(b.number == 11 && b.line == 1);
+    b = build("4E000100\n", 30);
+    EXPECT(b.number == 1 && b.line == 1);
+    b = build("4E00010100\n", 30);
+    EXPECT(b.number == 3 && b.line == 1);
+    b = build("4E00010141\n4E00020141\n4E00020141\n", 30);
+    EXPECT(b.number == 9 && b.line == 3);
+    EXPECT(all_words(words, 0, 30, BLANK));
+
+    /* 64 bytes pass, 65 give 2 */
+    char long_line[2 * 65 + 16];
+    for (unsigned n = 64; n <= 65; n++) {
+        int at = sprintf(long_line, "4E0001%02X", n);
+        for (unsigned i = 0; i < n; i++)
+            at += sprintf(long_line + at, "41");
+        sprintf(long_line + at, "\n");
+        fill_words(words, 500);
+        b = rushgirdle_build((const uint8_t *)long_line, strlen(long_line), words, 500);
+        EXPECT(b.number == (n == 64 ? 0 : 2) && b.line == (n == 64 ? 0u : 1u));
+    }
+
+    /* 256 names pass, a 257th gives 10; the largest id is 65535 */
+    static char many[257 * 11 + 1];
+    int at = 0;
+    for (unsigned i = 0; i < 256; i++)
+        at += sprintf(many + at, "4E%04X0141\n", 65535 - 256 + i);
+    b = rushgirdle_build((const uint8_t *)many, (size_t)at, words, RUSHGIRDLE_MOST_WORDS);
+    EXPECT(b.number == 0 && b.line == 0 && words[0] == 256 && words[1] == 3 && words[2] == 768);
+    EXPECT(words[3] == 65279u * 256 + 3 && words[258] == 65534u * 256 + 3);
+    sprintf(many + at, "4EFFFF0141\n");
+    b = rushgirdle_build((const uint8_t *)many, (size_t)at + 11, words, RUSHGIRDLE_MOST_WORDS);
+    EXPECT(b.number == 10 && b.line == 257);
+    EXPECT(all_words(words, 0, RUSHGIRDLE_MOST_WORDS, BLANK));
+
+    /* 256 names of 64 bytes have the most postings; the index takes 3+N+4D+P words, and a word less gives 8 */
+    static char most[256 * 137 + 1];
+    at = 0;
+    for (unsigned i = 0; i < 256; i++) {
+        at += sprintf(most + at, "4E%04X40", i);
+        for (unsigned k = 0; k < 64; k++)
+            at += sprintf(most + at, "%02X", k % 2 == 0 ? 1 + i % 16 + 16 * (k / 2 % 8) : 1 + i / 16 + 16 * (k / 16));
+        at += sprintf(most + at, "\n");
+    }
+    b = rushgirdle_build((const uint8_t *)most, (size_t)at, words, RUSHGIRDLE_MOST_WORDS);
+    EXPECT(b.number == 0 && words[0] == 256 && words[2] == 16896 && rushgirdle_good(words, RUSHGIRDLE_MOST_WORDS));
+    size_t total = 3 + 256 + 4 * (size_t)words[1] + 16896;
+    EXPECT(rushgirdle_build((const uint8_t *)most, (size_t)at, words, total).number == 0);
+    EXPECT(rushgirdle_build((const uint8_t *)most, (size_t)at, words, total - 1).number == 8);
+}
+
+static void test_good(void)
+{
+    uint32_t w[25];
+    memcpy(w, two_words, sizeof two_words);
+    w[23] = w[24] = KEPT;
+    EXPECT(rushgirdle_good(w, 23) == true);
+    EXPECT(rushgirdle_good(w, 25) == true);
+    EXPECT(rushgirdle_good(w, 22) == false);
+    EXPECT(rushgirdle_good(NULL, 0) == false);
+    uint32_t none[3] = {0, 0, 0};
+    EXPECT(rushgirdle_good(none, 3) == true);
+    EXPECT(rushgirdle_good(none, 2) == false);
+    /* one more in any word, and it is good no longer; but for the feature of a row, which may be any that keeps the order */
+    for (unsigned i = 0; i < 23; i++) {
+        w[i]++;
+        EXPECT(rushgirdle_good(w, 23) == (i == 6 || i == 10 || i == 14));
+        w[i]--;
+    }
+    EXPECT(memcmp(w, two_words, sizeof two_words) == 0 && w[23] == KEPT && w[24] == KEPT);
+}
+
+static void test_list(void)
+{
+    /* rows start at 5, postings at 17 */
+    rushgirdle_list_answer l = rushgirdle_list(two_words, 23, 3, 16641);
+    EXPECT(l.start == 17 && l.count == 2);
+    l = rushgirdle_list(two_words, 23, 3, 4259841);
+    EXPECT(l.start == 19 && l.count == 2);
+    EXPECT(two_words[l.start] == 1 && two_words[l.start + 1] == 2);
+    l = rushgirdle_list(two_words, 23, 3, 1090519041);
+    EXPECT(l.start == 21 && l.count == 2);
+    l = rushgirdle_list(two_words, 23, 3, 16642);
+    EXPECT(l.start == 0 && l.count == 0);
+    l = rushgirdle_list(two_words, 23, 4, 16641);
+    EXPECT(l.start == 0 && l.count == 0);
+    l = rushgirdle_list(two_words, 23, 3, 16641 + 4294967296u);
+    EXPECT(l.start == 0 && l.count == 0);
+    l = rushgirdle_list(two_words, 23, BLANK, UINT64_MAX);
+    EXPECT(l.start == 0 && l.count == 0);
+    l = rushgirdle_list(two_words, 22, 3, 16641);
+    EXPECT(l.start == 0 && l.count == 0);
+    l = rushgirdle_list(NULL, 0, 3, 16641);
+    EXPECT(l.start == 0 && l.count == 0);
+}
+
+/* ---- the search */
+
+#define INDEX 200
+static uint32_t lane[INDEX], ids[8], shared[8], sizes[8];
+
+static rushgirdle_search_answer search(const char *query, unsigned measure, unsigned p, unsigned q, uint32_t allowance, size_t a, size_t b, size_t c)
+{
+    fill_words(ids, 8);
+    fill_words(shared, 8);
+    fill_words(sizes, 8);
+    return rushgirdle_search((const uint8_t *)query, strlen(query), (uint8_t)measure, (uint16_t)p, (uint16_t)q, allowance,
+                             lane, INDEX, ids, a, shared, b, sizes, c);
+}
+
+static int refused(rushgirdle_search_answer a, unsigned number, uint32_t touches)
+{
+    return a.number == number && a.rows == 0 && a.touches == touches && a.p == 0 && a.q == 0 &&
+           all_words(ids, 0, 8, KEPT) && all_words(shared, 0, 8, KEPT) && all_words(sizes, 0, 8, KEPT);
+}
+
+static void test_search(void)
+{
+    const char *lines = "4E000A044C414E45\n4E000B054C414E4553\n4E000C05504C414E45\n";
+    rushgirdle_build_answer b = rushgirdle_build((const uint8_t *)lines, strlen(lines), lane, INDEX);
+    EXPECT(b.number == 0);
+
+    /* LANE has size 6; LANES and PLANE have 7 and share 4 with it; 6 touches at size 6 and 9 at size 7 */
+    rushgirdle_search_answer a = search("LANE", RUSHGIRDLE_DICE, 8, 13, 15, 8, 8, 8);
+    EXPECT(a.number == 0 && a.rows == 3 && a.touches == 15 && a.p == 8 && a.q == 13);
+    EXPECT(ids[0] == 10 && ids[1] == 11 && ids[2] == 12 && all_words(ids, 3, 8, KEPT));
+    EXPECT(shared[0] == 6 && shared[1] == 4 && shared[2] == 4 && all_words(shared, 3, 8, KEPT));
+    EXPECT(sizes[0] == 6 && sizes[1] == 7 && sizes[2] == 7 && all_words(sizes, 3, 8, KEPT));
+    /* the same in lowest terms, with just the room, one column at a time */
+    a = search("LANE", 1, 16, 26, BLANK, 3, 8, 5);
+    EXPECT(a.number == 0 && a.rows == 3 && a.touches == 15 && a.p == 8 && a.q == 13 && ids[2] == 12 && shared[2] == 4 && sizes[2] == 7);
+    a = search("LANE", 1, 8, 13, 14, 8, 8, 8);
+    EXPECT(refused(a, 7, 14));
+    a = search("LANE", 1, 8, 13, 0, 8, 8, 8);
+    EXPECT(refused(a, 7, 0));
+    a = search("LANE", 1, 8, 13, 15, 2, 8, 8);
+    EXPECT(refused(a, 8, 15));
+    a = search("LANE", 1, 8, 13, 15, 8, 2, 8);
+    EXPECT(refused(a, 8, 15));
+    a = search("LANE", 1, 8, 13, 15, 8, 8, 2);
+    EXPECT(refused(a, 8, 15));
+    /* one step above the similarity: LANE alone */
+    a = search("LANE", 1, 9, 13, 100, 8, 8, 8);
+    EXPECT(a.number == 0 && a.rows == 1 && a.p == 9 && a.q == 13 && ids[0] == 10 && shared[0] == 6 && sizes[0] == 6);
+    EXPECT(all_words(ids, 1, 8, KEPT) && all_words(shared, 1, 8, KEPT) && all_words(sizes, 1, 8, KEPT));
+    /* the other measures, on the threshold and beside it */
+    EXPECT(search("LANE", RUSHGIRDLE_JACCARD, 4, 9, 100, 8, 8, 8).rows == 3);
+    EXPECT(search("LANE", RUSHGIRDLE_JACCARD, 1, 2, 100, 8, 8, 8).rows == 1);
+    EXPECT(search("LANE", RUSHGIRDLE_COSINE, 617, 1000, 100, 8, 8, 8).rows == 3);
+    EXPECT(search("LANE", RUSHGIRDLE_COSINE, 618, 1000, 100, 8, 8, 8).rows == 1);
+    EXPECT(search("LANE", RUSHGIRDLE_OVERLAP, 2, 3, 100, 8, 8, 8).rows == 3);
+    EXPECT(search("LANE", RUSHGIRDLE_OVERLAP, 667, 1000, 100, 8, 8, 8).rows == 1);
+
+    /* the refusals in their order, each before those behind it */
+    a = search("", 0, 0, 0, 0, 0, 0, 0);
+    EXPECT(refused(a, 1, 0));
+    a = search("AAAAAAAAAAAAAAAAAAAAAAAAAAAAAAAAAAAAAAAAAAAAAAAAAAAAAAAAAAAAAAAAA", 0, 0, 0, 0, 8, 8, 8);
+    EXPECT(refused(a, 2, 0));
+    fill_words(ids, 8);
+    fill_words(shared, 8);
+    fill_words(sizes, 8);
+    a = rushgirdle_search((const uint8_t *)"A\0B", 3, 0, 0, 0, 0, lane, INDEX, ids, 8, shared, 8, sizes, 8);
+    EXPECT(refused(a, 3, 0));
+    EXPECT(refused(search("LANE", 0, 0, 0, 15, 8, 8, 8), 4, 0));
+    EXPECT(refused(search("LANE", 5, 8, 13, 15, 8, 8, 8), 4, 0));
+    EXPECT(refused(search("LANE", 255, 8, 13, 15, 8, 8, 8), 4, 0));
+    EXPECT(refused(search("LANE", 1, 0, 13, 15, 8, 8, 8), 5, 0));
+    EXPECT(refused(search("LANE", 1, 14, 13, 15, 8, 8, 8), 5, 0));
+    EXPECT(refused(search("LANE", 1, 8, 1001, 15, 8, 8, 8), 5, 0));
+    EXPECT(search("LANE", 1, 1000, 1000, 15, 8, 8, 8).number == 0);
+    uint32_t last = lane[2];
+    lane[2] = last + 1;
+    EXPECT(refused(search("LANE", 1, 8, 13, 0, 0, 0, 0), 6, 0));
+    lane[2] = last;
+
+    /* NULL with length 0: a query, an index, the three columns */
+    fill_words(ids, 8);
+    fill_words(shared, 8);
+    fill_words(sizes, 8);
+    EXPECT(refused(rushgirdle_search(NULL, 0, 1, 8, 13, 15, lane, INDEX, ids, 8, shared, 8, sizes, 8), 1, 0));
+    EXPECT(refused(rushgirdle_search((const uint8_t *)"LANE", 4, 1, 8, 13, 15, NULL, 0, ids, 8, shared, 8, sizes, 8), 6, 0));
+    EXPECT(refused(rushgirdle_search((const uint8_t *)"LANE", 4, 1, 8, 13, 15, lane, INDEX, NULL, 0, NULL, 0, NULL, 0), 8, 15));
+    a = rushgirdle_search((const uint8_t *)"XYZ", 3, 1, 1, 1, 100, lane, INDEX, NULL, 0, NULL, 0, NULL, 0);
+    EXPECT(a.number == 0 && a.rows == 0 && a.touches == 0 && a.p == 1 && a.q == 1);
+}
+
+/* ---- frames */
+
+static uint8_t buffer[600];
+
+static void fill_bytes(void) { memset(buffer, 0xA5, sizeof buffer); }
+
+static const uint8_t *bytes(const char *s) { return (const uint8_t *)s; }
+
+static void test_read(void)
+{
+    fill_bytes();
+    const char *line = "4EABCD044C414E45\n";
+    rushgirdle_name_answer n = rushgirdle_read_name(bytes(line), strlen(line), buffer, 6);
+    EXPECT(n.number == 0 && n.id == 0xABCD && n.len == 4);
+    EXPECT(memcmp(buffer, "LANE", 4) == 0 && all_bytes(buffer, 4, 600, 0xA5));
+    fill_bytes();
+    n = rushgirdle_read_name(bytes(line), strlen(line), buffer, 3);
+    EXPECT(n.number == 8 && n.id == 0 && n.len == 0 && all_bytes(buffer, 0, 600, 0xA5));
+    n = rushgirdle_read_name(bytes(line), strlen(line) - 1, buffer, 600);
+    EXPECT(n.number == 11 && n.id == 0 && n.len == 0 && all_bytes(buffer, 0, 600, 0xA5));
+    n = rushgirdle_read_name(bytes(line), strlen(line), NULL, 0);
+    EXPECT(n.number == 8 && n.id == 0 && n.len == 0);
+    n = rushgirdle_read_name(bytes("4E000100\n"), 9, NULL, 0);
+    EXPECT(n.number == 0 && n.id == 1 && n.len == 0);
+    n = rushgirdle_read_name(NULL, 0, buffer, 600);
+    EXPECT(n.number == 11 && n.id == 0 && n.len == 0 && all_bytes(buffer, 0, 600, 0xA5));
+
+    line = "5103123456789ABCDEF0025A59\n";
+    rushgirdle_query_answer q = rushgirdle_read_query(bytes(line), strlen(line), buffer, 2);
+    EXPECT(q.number == 0 && q.measure == 3 && q.p == 0x1234 && q.q == 0x5678 && q.allowance == 0x9ABCDEF0u && q.len == 2);
+    EXPECT(memcmp(buffer, "ZY", 2) == 0 && all_bytes(buffer, 2, 600, 0xA5));
+    fill_bytes();
+    q = rushgirdle_read_query(bytes(line), strlen(line), buffer, 1);
+    EXPECT(q.number == 8 && q.measure == 0 && q.p == 0 && q.q == 0 && q.allowance == 0 && q.len == 0 && all_bytes(buffer, 0, 600, 0xA5));
+    q = rushgirdle_read_query(bytes(line), 3, buffer, 600);
+    EXPECT(q.number == 11 && q.measure == 0 && q.p == 0 && q.q == 0 && q.allowance == 0 && q.len == 0 && all_bytes(buffer, 0, 600, 0xA5));
+    q = rushgirdle_read_query(NULL, 0, NULL, 0);
+    EXPECT(q.number == 11 && q.measure == 0 && q.p == 0 && q.q == 0 && q.allowance == 0 && q.len == 0);
+
+    rushgirdle_row_answer r = rushgirdle_read_row(bytes("521234AB56\n"), 11);
+    EXPECT(r.number == 0 && r.id == 0x1234 && r.shared == 0xAB && r.size == 0x56);
+    r = rushgirdle_read_row(bytes("521234Ab56\n"), 11);
+    EXPECT(r.number == 11 && r.id == 0 && r.shared == 0 && r.size == 0);
+    r = rushgirdle_read_row(NULL, 0);
+    EXPECT(r.number == 11 && r.id == 0 && r.shared == 0 && r.size == 0);
+
+    rushgirdle_end_answer e = rushgirdle_read_end(bytes("45123456789ABCDEF01122\n"), 23);
+    EXPECT(e.number == 0 && e.rows == 0x1234 && e.touches == 0x56789ABC && e.p == 0xDEF0 && e.q == 0x1122);
+    e = rushgirdle_read_end(bytes("45123456789ABCDEF011\n"), 21);
+    EXPECT(e.number == 11 && e.rows == 0 && e.touches == 0 && e.p == 0 && e.q == 0);
+    e = rushgirdle_read_end(NULL, 0);
+    EXPECT(e.number == 11 && e.rows == 0 && e.touches == 0 && e.p == 0 && e.q == 0);
+
+    rushgirdle_refusal_answer x = rushgirdle_read_refusal(bytes("5807FEDCBA98\n"), 13);
+    EXPECT(x.number == 0 && x.refusal == 7 && x.touches == 0xFEDCBA98u);
+    x = rushgirdle_read_refusal(bytes("5207FEDCBA98\n"), 13);
+    EXPECT(x.number == 11 && x.refusal == 0 && x.touches == 0);
+    x = rushgirdle_read_refusal(NULL, 0);
+    EXPECT(x.number == 11 && x.refusal == 0 && x.touches == 0);
+}
+
+/* the answer is the line, and what is behind it is kept */
+static int wrote(rushgirdle_write_answer w, const char *line)
+{
+    size_t n = strlen(line);
+    int held = w.number == 0 && w.len == n && memcmp(buffer, line, n) == 0 && all_bytes(buffer, n, 600, 0xA5);
+    fill_bytes();
+    return held;
+}
+
+static int not_written(rushgirdle_write_answer w, unsigned number)
+{
+    return w.number == number && w.len == 0 && all_bytes(buffer, 0, 600, 0xA5);
+}
+
+static void test_write(void)
+{
+    fill_bytes();
+    EXPECT(wrote(rushgirdle_write_name(buffer, 600, 0xABCD, bytes("LANE"), 4), "4EABCD044C414E45\n"));
+    EXPECT(wrote(rushgirdle_write_name(buffer, 17, 0xABCD, bytes("LANE"), 4), "4EABCD044C414E45\n"));
+    EXPECT(not_written(rushgirdle_write_name(buffer, 16, 0xABCD, bytes("LANE"), 4), 8));
+    EXPECT(wrote(rushgirdle_write_name(buffer, 600, 1, NULL, 0), "4E000100\n"));
+    EXPECT(not_written(rushgirdle_write_name(NULL, 0, 1, NULL, 0), 8));
+    EXPECT(wrote(rushgirdle_write_query(buffer, 27, 3, 0x1234, 0x5678, 0x9ABCDEF0u, bytes("ZY"), 2), "5103123456789ABCDEF0025A59\n"));
+    EXPECT(not_written(rushgirdle_write_query(buffer, 26, 3, 0x1234, 0x5678, 0x9ABCDEF0u, bytes("ZY"), 2), 8));
+    EXPECT(wrote(rushgirdle_write_query(buffer, 600, 255, 0, 65535, 1, NULL, 0), "51FF0000FFFF0000000100\n"));
+    EXPECT(not_written(rushgirdle_write_query(NULL, 0, 1, 1, 1, 1, NULL, 0), 8));
+    EXPECT(wrote(rushgirdle_write_row(buffer, 11, 0x1234, 0xAB, 0x56), "521234AB56\n"));
+    EXPECT(not_written(rushgirdle_write_row(buffer, 10, 0x1234, 0xAB, 0x56), 8));
+    EXPECT(not_written(rushgirdle_write_row(NULL, 0, 1, 2, 3), 8));
+    EXPECT(wrote(rushgirdle_write_end(buffer, 23, 0x1234, 0x56789ABC, 0xDEF0, 0x1122), "45123456789ABCDEF01122\n"));
+    EXPECT(not_written(rushgirdle_write_end(buffer, 22, 0x1234, 0x56789ABC, 0xDEF0, 0x1122), 8));
+    EXPECT(not_written(rushgirdle_write_end(NULL, 0, 1, 2, 3, 4), 8));
+    EXPECT(wrote(rushgirdle_write_refusal(buffer, 13, 7, 0xFEDCBA98u), "5807FEDCBA98\n"));
+    EXPECT(not_written(rushgirdle_write_refusal(buffer, 12, 7, 0xFEDCBA98u), 8));
+    EXPECT(not_written(rushgirdle_write_refusal(NULL, 0, 7, 1), 8));
+
+    /* 255 bytes are written, into just RUSHGIRDLE_LONGEST_LINE; 256 give 2, before 8 */
+    uint8_t name[256];
+    memset(name, 0x5A, sizeof name);
+    rushgirdle_write_answer w = rushgirdle_write_query(buffer, RUSHGIRDLE_LONGEST_LINE, 1, 2, 3, 4, name, 255);
+    EXPECT(w.number == 0 && w.len == RUSHGIRDLE_LONGEST_LINE && memcmp(buffer, "5101000200030000000" "4FF5A5A", 26) == 0);
+    EXPECT(buffer[531] == 'A' && buffer[532] == '\n' && all_bytes(buffer, 533, 600, 0xA5));
+    fill_bytes();
+    EXPECT(not_written(rushgirdle_write_query(buffer, RUSHGIRDLE_LONGEST_LINE - 1, 1, 2, 3, 4, name, 255), 8));
+    EXPECT(not_written(rushgirdle_write_query(buffer, 0, 1, 2, 3, 4, name, 256), 2));
+    EXPECT(not_written(rushgirdle_write_name(buffer, 600, 1, name, 256), 2));
+}
+
+/* ---- slices that end where memory ends */
+
+/* a copy of the bytes, or as many bytes A5, before a page that cannot be read or written */
+static void *fenced(const void *from, size_t n)
+{
+    size_t page = (size_t)sysconf(_SC_PAGESIZE), whole = (n / page + 1) * page;
+    char *block = mmap(NULL, whole + page, PROT_READ | PROT_WRITE, MAP_PRIVATE | MAP_ANONYMOUS, -1, 0);
+    if (block == MAP_FAILED || mprotect(block + whole, page, PROT_NONE) != 0) {
+        printf("FAILED: no memory\n0 passed, 1 failed\n");
+        fflush(stdout);
+        _exit(1);
+    }
+    memset(block, 0xA5, whole);
+    if (from != NULL)
+        memcpy(block + whole - n, from, n);
+    return block + whole - n;
+}
+
+static void test_fences(void)
+{
+    uint8_t *lines = fenced(two_lines, strlen(two_lines));
+    uint32_t *w = fenced(NULL, sizeof two_words);
+    rushgirdle_build_answer b = rushgirdle_build(lines, strlen(two_lines), w, 23);
+    EXPECT(b.number == 0 && memcmp(w, two_words, sizeof two_words) == 0);
+    EXPECT(rushgirdle_good(w, 23));
+    for (size_t n = 0; n < 23; n++) /* every shorter slice, its end at the fence too */
+        EXPECT(!rushgirdle_good(fenced(two_words, 4 * n), n));
+    EXPECT(rushgirdle_list(w, 23, 3, 1090519041).start == 21);
+    uint8_t *query = fenced("A", 1);
+    uint32_t *i = fenced(NULL, 8), *h = fenced(NULL, 8), *z = fenced(NULL, 8);
+    rushgirdle_search_answer a = rushgirdle_search(query, 1, 1, 1, 1, 6, w, 23, i, 2, h, 2, z, 2);
+    EXPECT(a.number == 0 && a.rows == 2 && a.touches == 6 && a.p == 1 && a.q == 1);
+    EXPECT(i[0] == 1 && i[1] == 2 && h[0] == 3 && h[1] == 3 && z[0] == 3 && z[1] == 3);
+    EXPECT(i[-1] == KEPT && h[-1] == KEPT && z[-1] == KEPT);
+
+    const char *line = "5103123456789ABCDEF0025A59\n";
+    uint8_t *whole = fenced(line, 27), *name = fenced(NULL, 2), *out = fenced(NULL, 27);
+    rushgirdle_query_answer q = rushgirdle_read_query(whole, 27, name, 2);
+    EXPECT(q.number == 0 && q.len == 2 && name[-1] == 0xA5 && name[0] == 'Z' && name[1] == 'Y');
+    rushgirdle_write_answer t = rushgirdle_write_query(out, 27, q.measure, q.p, q.q, q.allowance, name, q.len);
+    EXPECT(t.number == 0 && t.len == 27 && out[-1] == 0xA5 && memcmp(out, line, 27) == 0);
+    for (size_t n = 0; n < 27; n++) { /* every shorter line and buffer */
+        EXPECT(rushgirdle_read_query(fenced(line, n), n, name, 2).number == 11);
+        EXPECT(rushgirdle_write_query(fenced(NULL, n), n, 3, 1, 1, 1, name, 2).number == 8);
+    }
+    EXPECT(rushgirdle_read_name(fenced("4EABCD044C414E45\n", 17), 17, fenced(NULL, 4), 4).number == 0);
+    EXPECT(rushgirdle_read_row(fenced("521234AB56\n", 11), 11).number == 0);
+    EXPECT(rushgirdle_read_end(fenced("45123456789ABCDEF01122\n", 23), 23).number == 0);
+    EXPECT(rushgirdle_read_refusal(fenced("5807FEDCBA98\n", 13), 13).number == 0);
+    EXPECT(rushgirdle_write_name(fenced(NULL, 17), 17, 1, fenced("LANE", 4), 4).number == 0);
+    EXPECT(rushgirdle_write_row(fenced(NULL, 11), 11, 1, 2, 3).number == 0);
+    EXPECT(rushgirdle_write_end(fenced(NULL, 23), 23, 1, 2, 3, 4).number == 0);
+    EXPECT(rushgirdle_write_refusal(fenced(NULL, 13), 13, 1, 2).number == 0);
+}
+
+int main(void)
+{
+    test_build();
+    test_good();
+    test_list();
+    test_search();
+    test_read();
+    test_write();
+    test_fences();
+    printf("%u passed, %u failed\n", passed, failed);
+    return failed == 0 ? 0 : 1;
+}
