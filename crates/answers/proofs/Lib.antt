@@ -1,3 +1,5 @@
 pub mod Input
 pub mod Text
 pub mod Asking
+pub mod Responding
+pub mod Reading

@@ -9,13 +9,14 @@ use Rattle.names.specs.Features.{featuresOf}
 use Rattle.frames.specs.declared.Written.{Written}
 use Rattle.frames.specs.Layouts.{isFrame, fieldsIn, nameIn, lineOf}
 use Rattle.frames.specs.Frames.{queryFrame, rowFrame, endFrame, refusalFrame}
-use Rattle.register.specs.Lines.{linesOf}
+use Rattle.register.specs.Lines.{linesOf, lineLength}
 use Rattle.register.specs.Build.{blank, builtOf, wordsAfter}
 use Rattle.search.specs.Method.{answersOf}
 use Rattle.search.specs.Answers.{searchOf, givenBy, idColumn, sharedColumn, sizeColumn}
 use Rattle.search.specs.declared.Answer.{Answer}
 use Rattle.search.specs.declared.Answer.the-variants.{Found, Refused}
 use Rattle.answers.specs.declared.Opened.{Opened}
+use Rattle.answers.specs.declared.Response.{Response}
 
 -- ---- the register and the queries
 
@@ -127,6 +128,21 @@ fittingOf text room = cond (leb (length text) room) (record { number = 0; len = 
 
 unfoldable pub fittedOf : List ℕ → List ℕ → List ℕ
 fittedOf text out = cond (leb (length text) (length out)) (text ++ drop (length text) out) out
+
+-- ---- line by line
+
+-- the lines that the line at a place of the input is answered with; none past the end
+unfoldable pub lineText : List ℕ → List ℕ → ℕ → List ℕ
+lineText w input at = cond (ltb at (length input)) (answerOf w (take (lineLength (drop at input)) (drop at input))) []
+
+-- what answering that line answers: as its lines fit the room, and where the next line starts
+unfoldable pub respondedOf : List ℕ → List ℕ → ℕ → ℕ → Response
+respondedOf w input at room =
+    record {
+      number = fittingOf (lineText w input at) room .number;
+      len = fittingOf (lineText w input at) room .len;
+      next = at + lineLength (drop at input);
+    }
 
 -- ---- the whole program
 

@@ -9,7 +9,7 @@ ghost use Rattle.index.specs.Good.{Good};
 ghost use Rattle.names.specs.Features.{featuresOf};
 ghost use Rattle.search.specs.Method.{answersOf};
 ghost use Rattle.search.specs.Answers.{rowsIn, searchOf, givenBy, roomOf, over, idColumn, sharedColumn, sizeColumn};
-ghost use Rattle.answers.specs.Output.{begins, registerEnd, openedOf, openWords, rowLine, rowsText, rowsLent, foundText, answerText, answerOf, fittingOf, fittedOf};
+ghost use Rattle.answers.specs.Output.{begins, registerEnd, openedOf, openWords, rowLine, rowsText, rowsLent, foundText, answerText, answerOf, fittingOf, fittedOf, lineText, respondedOf};
 ghost use Rattle.answers.specs.Rows.{Shown};
 use frames::Written;
 use search::Answer;
@@ -239,4 +239,34 @@ pub fn answer(line: &[u8], words: &[u32], out: &mut [u8]) -> Written
         &mut sizes,
         out,
     )
+}
+
+// What a line of an input came to: as writing answers, and where the next line starts.
+pub struct Response {
+    pub number: u8,
+    pub len: usize,
+    pub next: usize,
+}
+
+// Writes the answer to the line of an input that starts at `at`, from words that are known to be good. Past the end there is no line and nothing is
+// written. A line that is no query has its answer too, and the next line comes after it.
+pub fn respond_good(input: &[u8], at: usize, words: &[u32], out: &mut [u8]) -> Response
+    requires { ⌜ Good (now words) ⌝ }
+    ensures { λ r. ⌜ r ≡ respondedOf (now (words .entry)) (now (input .entry)) at (length (now (out .entry))) ⌝ }
+    ensures { λ _. ⌜ now (out .exit) ≡ fittedOf (lineText (now (words .entry)) (now (input .entry)) at) (now (out .entry)) ⌝ }
+{
+    if input.len() <= at {
+        return Response {
+            number: 0,
+            len: 0,
+            next: at,
+        };
+    }
+    let end = register::line_end(input, at);
+    let written = answer_good(&input[at..end], words, out);
+    Response {
+        number: written.number,
+        len: written.len,
+        next: end,
+    }
 }

@@ -58,16 +58,15 @@ fn refuse(number: u8, out: &mut [u8]) {
 
 // Answers the lines from `from` on, until all are answered or a write fails.
 fn answer_lines(input: &[u8], from: usize, words: &[u32], out: &mut [u8])
-    requires { ⌜ Good (now words) × (from ≤ length (now input)) ⌝ }
+    requires { ⌜ Good (now words) ⌝ }
 {
     let mut at = from;
     while at < input.len() {
-        let end = register::line_end(input, at);
-        let written = answers::answer_good(&input[at..end], words, out);
-        if !io::write_all(STDOUT_FILENO, &out[..written.len]) {
+        let response = answers::respond_good(input, at, words, out);
+        if !io::write_all(STDOUT_FILENO, &out[..response.len]) {
             return;
         }
-        at = end;
+        at = response.next;
     }
 }
 

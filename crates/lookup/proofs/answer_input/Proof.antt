@@ -1,13 +1,9 @@
--- `answer_input` meets its contract: an input that is opened has a good index, and its queries begin within it.
+-- `answer_input` meets its contract: an input that is opened has a good index.
 use mathlib.Core.Path.{_≡_, sym, ap, subst, _∙_}
-use mathlib.Core.List.{List}
-use Prim.Native.Nat.{ℕ, _≤_}
-use native.Mathlib.Omega.{arith}
 use borrow.Author.Needs.{needs}
-use lib.ListN.{length}
 use Rattle.index.specs.Good.{Good}
 use Rattle.answers.specs.declared.Opened.{Opened}
-use Rattle.answers.proofs.Input.{opened-within, opened-good}
+use Rattle.answers.proofs.Input.{opened-good}
 use Rattle.lookup.proofs.answer_input.Statement.{statement}
 use Rattle.lookup.proofs.answer_input.Tie as tie
 
@@ -32,9 +28,7 @@ answer-lines-requires c κs =
     let o = c .before .before .before .before .before .«open» in
     let e = o .ensures .0 in
     let z = sym (ap (λ (x : Opened). x .number) e) ∙ c .before .before .if1 .left in
-    let n = ap (λ (x : Opened). x .at) e in
-    let h = opened-within (a .input .now) (length (a .words .now)) in
-    (subst Good (sym (o .ensures .1)) (opened-good (a .input .now) (a .words .now) z), omega arith)
+    subst Good (sym (o .ensures .1)) (opened-good (a .input .now) (a .words .now) z)
 
 same-length-3 : tie.Need-same-length-3
 same-length-3 c = search needs

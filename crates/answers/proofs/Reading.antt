@@ -1,0 +1,163 @@
+-- What an answer's lines say: cut at their line feeds they are one for each row and the end, and each reads back as what the search found.
+-- Assumes nothing.
+use mathlib.Core.Path.{_≡_, refl, sym, ap, ap₂, _∙_}
+use mathlib.Core.Logic.{⊎-elim}
+use mathlib.Core.Bool.{Bool, true, false, cond}
+use mathlib.Core.List.{List, [], _∷_, _++_, append-nil, append-assoc}
+use Prim.Native.Nat.{ℕ, zero, suc, _+_, _*_, _/_, _%_, _≤_, _<_}
+use native.Mathlib.Omega.{arith}
+use lib.ListN.{length, getD}
+use lib.Dec.{eqb}
+use borrow.Author.Tests.{ne-eqb}
+use Rattle.laws.specs.Lists.{tabulate}
+use Rattle.laws.proofs.Order.{eq-or-ne}
+use Rattle.names.specs.Features.{featuresOf}
+use Rattle.likeness.specs.Terms.{lowestTerms}
+use Rattle.likeness.proofs.Measures.{threshold-facts}
+use Rattle.likeness.proofs.Terms.{lowest-good}
+use Rattle.frames.specs.Lines.{digits, digitOf, hexOf, hexLine}
+use Rattle.frames.specs.Numbers.{bytesFor}
+use Rattle.frames.specs.Layouts.{lineOf, fieldBytes, nameBytes, isFrame, readOf}
+use Rattle.frames.specs.declared.Layout.{Layout}
+use Rattle.frames.specs.declared.RowRead.the-variants.{Row}
+use Rattle.frames.specs.declared.EndRead.the-variants.{End}
+use Rattle.frames.specs.declared.RefusalRead.the-variants.{Refusal}
+use Rattle.frames.specs.Frames.{queryFrame, rowFrame, endFrame, refusalFrame, rowOut, endOut, refusalOut}
+use Rattle.frames.proofs.Five.{read-write-row, read-write-end, read-write-refusal}
+use Rattle.register.specs.Lines.{linesOf, joinLine, lineFeed}
+use Rattle.search.specs.Method.{touchesOf, answersOf}
+use Rattle.search.specs.Answers.{numberIn, rowsIn, idColumn, sharedColumn, sizeColumn}
+use Rattle.search.specs.declared.Answer.{Answer}
+use Rattle.search.specs.declared.Answer.the-variants.{Found, Refused}
+use Rattle.search.proofs.Found.{refused-empty, Answered, answered}
+use Rattle.answers.specs.Output.{rowLine, endLine, refusalLine, rowsText, foundText, answerText, rowsLent, queryIn, measureIn, pIn, qIn, allowanceIn, searchFor, placesFor, answerOf}
+use Rattle.answers.specs.Rows.{Shown}
+use Rattle.answers.proofs.Text.{length-found}
+
+-- ---- a line feed stands at the end of a line alone
+
+-- no element is a line feed; so of no elements
+abbrev NoFeed : List ℕ → Type 0
+NoFeed [] = Unit {0}
+NoFeed (b ∷ l) = (b ≡ lineFeed → ⊥) × NoFeed l
+
+digit-no-feed : (n : ℕ) → digitOf n ≡ lineFeed → ⊥
+unfolding digitOf
+digit-no-feed n e = none digits (tt-all) n e
+  where
+    above : List ℕ → Type 0
+    above [] = Unit {0}
+    above (b ∷ l) = (10 < b) × above l
+
+    tt-all : above digits
+    tt-all = (omega arith, (omega arith, (omega arith, (omega arith, (omega arith, (omega arith, (omega arith, (omega arith, (omega arith, (omega arith, (omega arith, (omega arith, (omega arith, (omega arith, (omega arith, (omega arith, tt))))))))))))))))
+
+    none : (l : List ℕ) → above l → (n : ℕ) → getD l n 0 ≡ 10 → ⊥
+    none [] a n e = omega arith
+    none (b ∷ l) a zero e = let h = a .0 in omega arith
+    none (b ∷ l) a (suc n) e = none l (a .1) n e
+
+hex-no-feed : (s : List ℕ) → NoFeed (hexOf s)
+unfolding hexOf
+hex-no-feed [] = tt
+hex-no-feed (b ∷ s) = (digit-no-feed (b / 16), (digit-no-feed (b % 16), hex-no-feed s))
+
+-- the first line of a line and more
+feed-cut : (l rest : List ℕ) → NoFeed l → linesOf ((l ++ (10 ∷ [])) ++ rest) ≡ (l ++ (10 ∷ [])) ∷ linesOf rest
+unfolding linesOf joinLine
+feed-cut [] rest n = refl
+feed-cut (b ∷ l) rest n = rw (ne-eqb b lineFeed (n .0)) (ap (joinLine b) (feed-cut l rest (n .1)))
+
+line-cut : (y : Layout) (f rest : List ℕ) → linesOf (lineOf y f [] ++ rest) ≡ lineOf y f [] ∷ linesOf rest
+unfolding lineOf hexLine
+line-cut y f rest =
+    feed-cut (hexOf (y .kind ∷ (fieldBytes (y .widths) f ++ nameBytes (y .named) []))) rest
+    (hex-no-feed (y .kind ∷ (fieldBytes (y .widths) f ++ nameBytes (y .named) [])))
+
+line-alone : (y : Layout) (f : List ℕ) → linesOf (lineOf y f []) ≡ lineOf y f [] ∷ []
+line-alone y f = ap linesOf (sym (append-nil (lineOf y f []))) ∙ line-cut y f [] ∙ ap (λ (ls : List (List ℕ)). lineOf y f [] ∷ ls) nothing
+  where
+    nothing : linesOf [] ≡ []
+    nothing = unfold linesOf in refl
+
+-- ---- the lines of an answer
+
+-- one line for each row, in order
+abbrev pub rowLines : List ℕ → List ℕ → List ℕ → ℕ → List (List ℕ)
+rowLines ids shared sizes n = tabulate (λ (k : ℕ). rowLine (getD ids k 0) (getD shared k 0) (getD sizes k 0)) n
+
+rows-cut : (ids shared sizes : List ℕ) (n : ℕ) (rest : List ℕ) → linesOf (rowsText ids shared sizes n ++ rest) ≡ rowLines ids shared sizes n ++ linesOf rest
+unfolding rowsText tabulate
+rows-cut ids shared sizes zero rest = refl
+rows-cut ids shared sizes (suc n) rest =
+    let l = rowLine (getD ids n 0) (getD shared n 0) (getD sizes n 0) in
+    ap linesOf (append-assoc (rowsText ids shared sizes n) l rest)
+    ∙ rows-cut ids shared sizes n (l ++ rest)
+    ∙ ap (λ (ls : List (List ℕ)). rowLines ids shared sizes n ++ ls) (line-cut rowFrame (getD ids n 0 ∷ getD shared n 0 ∷ getD sizes n 0 ∷ []) rest)
+    ∙ sym (append-assoc (rowLines ids shared sizes n) (l ∷ []) (linesOf rest))
+
+pub lines-found : (rows touches p q : ℕ) (ids shared sizes : List ℕ)
+    → linesOf (foundText rows touches p q ids shared sizes) ≡ rowLines ids shared sizes rows ++ (endLine rows touches p q ∷ [])
+unfolding foundText
+lines-found rows touches p q ids shared sizes =
+    rows-cut ids shared sizes rows (endLine rows touches p q)
+    ∙ ap (λ (ls : List (List ℕ)). rowLines ids shared sizes rows ++ ls) (line-alone endFrame (rows ∷ touches ∷ p ∷ q ∷ []))
+
+pub lines-refused : (number touches : ℕ) → linesOf (refusalLine number touches) ≡ refusalLine number touches ∷ []
+lines-refused number touches = line-alone refusalFrame (number ∷ touches ∷ [])
+
+-- ---- each line reads back
+
+pub reads-row : (ids shared sizes : List ℕ) (n : ℕ) → Shown ids shared sizes n → (k : ℕ) → k < n
+    → readOf rowFrame (rowLine (getD ids k 0) (getD shared k 0) (getD sizes k 0)) 0 ≡ rowOut (Row (getD ids k 0) (getD shared k 0) (getD sizes k 0))
+reads-row ids shared sizes n s k h = read-write-row (getD ids k 0) (getD shared k 0) (getD sizes k 0) (s .id k h) (s .share k h) (s .size k h)
+
+-- the end of an answered search, whose allowance fits 32 bits
+pub reads-end : (w line : List ℕ) → allowanceIn line < 4294967296 → numberIn (searchFor w line) ≡ 0
+    → let n = length (answersOf w (measureIn line) (pIn line) (qIn line) (featuresOf (queryIn line))) in
+    let t = touchesOf w (measureIn line) (pIn line) (qIn line) (featuresOf (queryIn line)) in
+    let a = lowestTerms (pIn line) (qIn line) .p in
+    let b = lowestTerms (pIn line) (qIn line) .q in
+    (searchFor w line ≡ Found n t a b) × (readOf endFrame (endLine n t a b) 0 ≡ endOut (End n t a b))
+reads-end w line f z =
+    let k = answered (queryIn line) (measureIn line) (pIn line) (qIn line) (allowanceIn line) w rowsLent z in
+    let few = k .fits in
+    let enough = k .enough in
+    let g = threshold-facts (lowestTerms (pIn line) (qIn line) .p) (lowestTerms (pIn line) (qIn line) .q) (lowest-good (pIn line) (qIn line) (k .asked .exact)) in
+    let g1 = g .1 in
+    let g2 = g .2 in
+    (k .form, read-write-end _ _ _ _ (omega arith) (omega arith) (omega arith) (omega arith))
+
+pub reads-refusal : (number touches : ℕ) → number < 256 → touches < 4294967296
+    → readOf refusalFrame (refusalLine number touches) 0 ≡ refusalOut (Refusal number touches)
+reads-refusal number touches h k = read-write-refusal number touches h k
+
+-- ---- how long an answer is at most
+
+refusal-length : (number touches : ℕ) → length (refusalLine number touches) ≡ 13
+unfolding lineOf hexLine hexOf fieldBytes nameBytes bytesFor
+refusal-length number touches = refl
+
+text-most : (r : Answer) (ids shared sizes : List ℕ) → rowsIn r ≤ rowsLent → length (answerText r ids shared sizes) ≤ 2839
+unfolding answerText
+text-most (Found rows touches p q) ids shared sizes h = let n = length-found rows touches p q ids shared sizes in omega arith
+text-most (Refused number touches) ids shared sizes h = let n = refusal-length number touches in omega arith
+
+pub answer-most : (w line : List ℕ) → length (answerOf w line) ≤ 2839
+unfolding answerOf
+answer-most w line = by-frame (isFrame queryFrame line)
+  where
+    few : rowsIn (searchFor w line) ≤ rowsLent
+    few =
+        ⊎-elim
+        (λ (z : numberIn (searchFor w line) ≡ 0).
+        let k = answered (queryIn line) (measureIn line) (pIn line) (qIn line) (allowanceIn line) w rowsLent z in
+        let e = ap rowsIn (k .form) in
+        let f = k .fits in
+        omega arith)
+        (λ (n : numberIn (searchFor w line) ≡ 0 → ⊥). let e = refused-empty (searchFor w line) n .0 in omega arith)
+        (eq-or-ne (numberIn (searchFor w line)) 0)
+
+    by-frame : (b : Bool) → length (cond b (answerText (searchFor w line) (idColumn w (placesFor w line)) (sharedColumn w (featuresOf (queryIn line)) (placesFor w line)) (sizeColumn w (placesFor w line))) (refusalLine 11 0)) ≤ 2839
+    by-frame true = text-most (searchFor w line) (idColumn w (placesFor w line)) (sharedColumn w (featuresOf (queryIn line)) (placesFor w line)) (sizeColumn w (placesFor w line)) few
+    by-frame false = let n = refusal-length 11 0 in omega arith
