@@ -3,7 +3,7 @@
 -- Assumes nothing.
 use mathlib.Core.Path.{_≡_, refl, ap, _∙_}
 use mathlib.Core.Logic.{_⊎_, inl, inr}
-use mathlib.Core.Bool.{Bool, true, false, _&&_, _||_, false≢true}
+use mathlib.Core.Bool.{Bool, true, false, _&&_, _||_, false≢true, or-true}
 use mathlib.Core.List.{List}
 use Prim.Native.Nat.{ℕ, zero, suc, _+_, _-_, _≤_, _<_}
 use native.Mathlib.Nat.{add-assoc}
@@ -11,7 +11,7 @@ use native.Mathlib.Omega.{arith}
 use lib.ListN.{length, getD, length-take, length-drop}
 use lib.Seq.{getD-take, getD-drop}
 use lib.Dec.{leb, ltb, eqb}
-use borrow.Author.Tests.{leb-true, ltb-true, eqb-true}
+use borrow.Author.Tests.{leb-true, ltb-true, eqb-true, lt-ltb, eq-eqb}
 use Rattle.laws.specs.Below.{allBelow, sumBelow}
 use Rattle.laws.proofs.Below.{and-left, and-right, all-at, sum-below-up, sum-below-step}
 use Rattle.laws.proofs.Ascending.{chain}
@@ -83,6 +83,12 @@ pub before-row : (w : List ℕ) (r s : ℕ) → rowBefore w r s ≡ true → Bef
 unfolding rowBefore Before
 before-row w r s e = before-cases (rowSize w r) (rowSize w s) (rowFeature w r) (rowFeature w s) e
 
+pub row-before : (w : List ℕ) (r s : ℕ) → Before w r s → rowBefore w r s ≡ true
+unfolding rowBefore Before
+row-before w r s (inl a) = rw (lt-ltb (rowSize w r) (rowSize w s) a)
+row-before w r s (inr a) =
+    rw (eq-eqb (rowSize w r) (rowSize w s) (a .0), lt-ltb (rowFeature w r) (rowFeature w s) (a .1)) (or-true (ltb (rowSize w r) (rowSize w s)))
+
 before-trans : (w : List ℕ) (r s t : ℕ) → Before w r s → Before w s t → Before w r t
 unfolding Before
 before-trans w r s t (inl a) (inl b) = inl (omega arith)
@@ -132,27 +138,31 @@ due-sum w (suc r) h =
     let b = h r (omega arith) in
     ap (λ (n : ℕ). n + rowLength w r) (b ∙ a)
 
-module _ (w : List ℕ) (rows : Rows w) (r : ℕ) (row : r < rowCount w) where
-  pub place-sum : rowPlace w r ≡ sumBelow r (rowLength w)
-  place-sum = rows .place r row ∙ due-sum w r (λ s l. rows .place s (omega arith))
+-- where each place is the sum of the counts before it and all counts sum to P, a row's list lies within the postings
+pub list-inside : (w : List ℕ) → ((r : ℕ) → r < rowCount w → rowPlace w r ≡ sumBelow r (rowLength w))
+    → sumBelow (rowCount w) (rowLength w) ≡ postingCount w → (r : ℕ) → r < rowCount w → rowPlace w r + rowLength w r ≤ postingCount w
+list-inside w places sum r row =
+    let a = places r row in
+    let b = sum-below-step (rowLength w) r in
+    let c = sum-below-up (r + 1) (rowCount w - (r + 1)) (rowLength w) in
+    let d : (r + 1) + (rowCount w - (r + 1)) ≡ rowCount w = omega arith in
+    let e = ap (λ (n : ℕ). sumBelow n (rowLength w)) d in
+    omega arith
 
-  -- a row's list lies within the postings
-  pub list-within : rowPlace w r + rowLength w r ≤ postingCount w
-  list-within =
-      let a = place-sum in
-      let b = sum-below-step (rowLength w) r in
-      let c = sum-below-up (r + 1) (rowCount w - (r + 1)) (rowLength w) in
-      let d : (r + 1) + (rowCount w - (r + 1)) ≡ rowCount w = omega arith in
-      let e = ap (λ (n : ℕ). sumBelow n (rowLength w)) d in
-      let f = rows .sum in
-      omega arith
+-- and is as long as its count says
+pub list-long : (w : List ℕ) → total w ≤ length w → (r : ℕ) → rowPlace w r + rowLength w r ≤ postingCount w → length (listAt w r) ≡ rowLength w r
+unfolding listAt
+list-long w t r h = simp (length-take, length-drop) (omega arith)
 
-  module _ (within : total w ≤ length w) where
-    pub length-list : length (listAt w r) ≡ rowLength w r
-    unfolding listAt
-    length-list =
-        let a = list-within in
-        simp (length-take, length-drop) (omega arith)
+module _ (w : List ℕ) (rows : Rows w) where
+  pub place-sum : (r : ℕ) → r < rowCount w → rowPlace w r ≡ sumBelow r (rowLength w)
+  place-sum r row = rows .place r row ∙ due-sum w r (λ s l. rows .place s (omega arith))
+
+  pub list-within : (r : ℕ) → r < rowCount w → rowPlace w r + rowLength w r ≤ postingCount w
+  list-within = list-inside w place-sum (rows .sum)
+
+  pub length-list : (r : ℕ) → r < rowCount w → total w ≤ length w → length (listAt w r) ≡ rowLength w r
+  length-list r row t = list-long w t r (list-within r row)
 
 -- the k-th id of row r's list
 pub list-getD : (w : List ℕ) (r k : ℕ) → k < rowLength w r → getD (listAt w r) k 0 ≡ posting w (rowPlace w r + k)

@@ -121,7 +121,7 @@ module _ (w : List ℕ) (g : Good w) where
   length-row : (r : ℕ) → r < rowCount w → length (listAt w r) ≡ rowLength w r
   length-row r l = length-list w (facts .rows) r l (facts .head .within)
 
-  row-ascending : (r : ℕ) → r < rowCount w → Ascending (listAt w r)
+  pub row-ascending : (r : ℕ) → r < rowCount w → Ascending (listAt w r)
   row-ascending r l =
       ascending-next (listAt w r)
       (λ i m.
@@ -132,7 +132,7 @@ module _ (w : List ℕ) (g : Good w) where
       omega arith)
 
   -- every id of row r's list is a name of the row's size
-  row-named : (r id : ℕ) → r < rowCount w → member id (listAt w r) ≡ true
+  pub row-named : (r id : ℕ) → r < rowCount w → member id (listAt w r) ≡ true
       → (i : ℕ) × (i < nameCount w) × (nameId w i ≡ id) × (nameSize w i ≡ rowSize w r)
   row-named r id l m =
       let n = length-row r l in
@@ -203,7 +203,7 @@ among-length w id (suc k) = by-test (member id (listAt w k)) (among-length w id 
     by-test true h = let a = length-append (featuresAmong w id k) (rowFeature w k ∷ []) in omega arith
     by-test false h = let a = length-append (featuresAmong w id k) [] in omega arith
 
-among-at : (w : List ℕ) (id k f : ℕ) → member f (featuresAmong w id k) ≡ true
+pub among-at : (w : List ℕ) (id k f : ℕ) → member f (featuresAmong w id k) ≡ true
     → (r : ℕ) × (r < k) × (member id (listAt w r) ≡ true) × (rowFeature w r ≡ f)
 unfolding featuresAmong member
 among-at w id zero f e = absurd (false≢true e)
@@ -228,7 +228,7 @@ among-at w id (suc k) f e = by-test (member id (listAt w k)) refl e (among-at w 
             or-end false z = z
     by-test false q m h = later (h (ap (member f) (sym (append-nil (featuresAmong w id k))) ∙ m))
 
-among-of : (w : List ℕ) (id k r : ℕ) → r < k → member id (listAt w r) ≡ true → member (rowFeature w r) (featuresAmong w id k) ≡ true
+pub among-of : (w : List ℕ) (id k r : ℕ) → r < k → member id (listAt w r) ≡ true → member (rowFeature w r) (featuresAmong w id k) ≡ true
 unfolding featuresAmong member
 among-of w id zero r l m = absurd (omega arith)
 among-of w id (suc k) r l m =

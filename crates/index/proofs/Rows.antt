@@ -1,5 +1,5 @@
 -- What the halving search of rows needs: rows of a good index rise by size and feature as one number, where every word fits 32 bits.
--- Cited by the proofs of `rows_below`, `list_at` and `list_for_good`.
+-- Cited by the proofs of `rows_below` and `place_for_good`.
 -- Assumes nothing.
 use mathlib.Core.Path.{_≡_, sym, ap, subst, _∙_}
 use mathlib.Core.Logic.{⊎-elim, inl, inr}
@@ -16,9 +16,8 @@ use Rattle.laws.proofs.Halving.{Falling, Stretch, falling-count}
 use Rattle.laws.proofs.Order.{le-or-lt}
 use Rattle.index.specs.Words.{rowCount, rowSize, rowFeature, rowPlace, rowLength, rowWidth, rowStart, listStart, total, postingsStart}
 use Rattle.index.specs.Good.{rowBefore, Good}
-use Rattle.index.specs.Built.{keyOf}
+use Rattle.index.specs.Lists.{keyOf, rowKey, rowFor, spanAt, spanIn}
 use Rattle.index.specs.Part.{none}
-use Rattle.index.specs.Lists.{rowKey, rowFor, spanAt, spanIn}
 use Rattle.index.proofs.Facts.{Before, good-facts, list-within}
 use Rattle.index.proofs.Laws.{row-found, row-for}
 

@@ -1,17 +1,17 @@
 -- The part of a list lies within the words, and is as long as the list. Cited by whoever keeps a list's place in numbers.
 -- Assumes nothing.
-use mathlib.Core.Path.{_≡_, refl, sym, ap, _∙_}
+use mathlib.Core.Path.{_≡_, sym, ap, _∙_}
 use mathlib.Core.Logic.{⊎-elim}
 use mathlib.Core.List.{List}
 use Prim.Native.Nat.{ℕ, _+_, _-_, _≤_, _<_}
 use native.Mathlib.Omega.{arith}
-use lib.ListN.{length, take, drop, length-drop}
+use lib.ListN.{length, drop, length-drop}
 use lib.Seq.{length-take-le}
 use borrow.Author.Tests.{lt-ltb}
 use Rattle.laws.proofs.Order.{le-or-lt}
-use Rattle.index.specs.Words.{rowCount, rowLength, listStart}
+use Rattle.index.specs.Words.{rowCount}
 use Rattle.index.specs.Good.{Good}
-use Rattle.index.specs.Part.{Span, none, cut}
+use Rattle.index.specs.Part.{Span}
 use Rattle.index.specs.Lists.{rowFor, spanAt, spanIn, listIn}
 use Rattle.index.proofs.Laws.{span-words}
 use Rattle.index.proofs.Rows.{list-end, span-past}

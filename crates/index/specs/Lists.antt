@@ -2,7 +2,7 @@
 -- Assumes nothing.
 use mathlib.Core.Bool.{Bool, cond, _&&_}
 use mathlib.Core.List.{List, [], _∷_, _++_}
-use Prim.Native.Nat.{ℕ, zero, suc}
+use Prim.Native.Nat.{ℕ, zero, suc, _+_, _*_, _^_}
 use lib.Dec.{ltb, eqb}
 use Rattle.laws.specs.Lists.{member}
 use Rattle.laws.specs.First.{firstFrom}
@@ -10,7 +10,14 @@ use Rattle.laws.specs.Below.{countBelow}
 use Rattle.index.specs.Words.{nameCount, rowCount, nameId, nameSize, rowSize, rowFeature, rowLength, listStart, listAt}
 use Rattle.index.specs.Good.{goodOf}
 use Rattle.index.specs.Part.{Span, none}
-use Rattle.index.specs.Built.{keyOf}
+
+-- features are below this
+abbrev pub featureSpan : ℕ
+featureSpan = 2 ^ 32
+
+-- a size and a feature as one number
+abbrev pub keyOf : ℕ → ℕ → ℕ
+keyOf size feature = size * featureSpan + feature
 
 -- a row's size and feature as one number, by which the rows ascend
 unfoldable pub rowKey : List ℕ → ℕ → ℕ

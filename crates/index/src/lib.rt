@@ -11,7 +11,7 @@ ghost use Rattle.index.specs.Words.{nameCount, rowCount, postingCount, n
 ghost use Rattle.index.specs.Good.{headGood, nameGood, namesGood, rowsGood, listGood, listsGood, goodOf, Good};
 ghost use Rattle.index.specs.Check.{Named, Checked, Tallied};
 ghost use Rattle.index.specs.Part.{Part};
-ghost use Rattle.index.specs.Lists.{rowKey, spanAt, spanIn, spanFor, namePlace, nameFor};
+ghost use Rattle.index.specs.Lists.{rowKey, spanIn, spanFor, namePlace, nameFor};
 
 // ---- the layout: nothing else knows where a word stands
 
@@ -417,16 +417,6 @@ pub fn rows_below(words: &[u32], from: usize, to: usize, key: u64) -> usize
     from + base
 }
 
-// The list of row r, as that part of the words.
-pub fn list_at(words: &[u32], r: usize) -> &[u32]
-    requires { ⌜ Good (now words) × (r < rowCount (now words)) ⌝ }
-    ensures { λ l. ⌜ Part (words .entry) l (spanAt (now (words .entry)) r) ⌝ }
-{
-    let start = row_start(words, row_count(words)) + row_place(words, r);
-    let end = start + row_length(words, r);
-    &words[start..end]
-}
-
 // Where a list lies among the words.
 pub struct Place {
     pub start: usize,
@@ -446,7 +436,7 @@ pub fn place_for_good(words: &[u32], size: u32, feature: u64) -> Place
     let r = rows_below(words, 0, rows, key);
     if r < rows {
         if row_key(words, r) == key {
-            let start = 3 + name_count(words) + 4 * rows + row_place(words, r);
+            let start = row_start(words, rows) + row_place(words, r);
             return Place {
                 start,
                 count: row_length(words, r),
@@ -461,18 +451,10 @@ pub fn list_for_good(words: &[u32], size: u32, feature: u64) -> &[u32]
     requires { ⌜ Good (now words) ⌝ }
     ensures { λ l. ⌜ Part (words .entry) l (spanIn (now (words .entry)) size feature) ⌝ }
 {
-    if 4294967295 < feature {
-        return &words[0..0];
-    }
-    let rows = row_count(words);
-    let key = size as u64 * 4294967296 + feature;
-    let r = rows_below(words, 0, rows, key);
-    if r < rows {
-        if row_key(words, r) == key {
-            return list_at(words, r);
-        }
-    }
-    &words[0..0]
+    let place = place_for_good(words, size, feature);
+    let start = place.start;
+    let end = start + place.count;
+    &words[start..end]
 }
 
 // The same of any words: the empty part too where the index isn't good.

@@ -11,7 +11,7 @@ use Rattle.names.specs.Features.{padded, joined, gramAt, timesIn, numberAt, num
 use Rattle.frames.specs.Lines.{digitOf, placeIn, valueOf, isDigit, hexOf, hexLine, wellFormed, bytesOf}
 use Rattle.frames.specs.Numbers.{numberOf}
 use Rattle.frames.specs.Layouts.{headSize, nameSize, laidOut, isFrame, fieldsOf, fieldsIn, nameIn}
-use Rattle.index.specs.Built.{triplesOf, allTriples, joinRow, runsOf, listsOf, rowWords, wordsFrom, rowsOf, wordsOf}
+use Rattle.postings.specs.Built.{triplesOf, allTriples, joinRow, runsOf, listsOf, rowWords, wordsFrom, rowsOf, wordsOf}
 use Rattle.register.specs.Lines.{joinLine, linesOf}
 use Rattle.register.specs.declared.Built.{Built}
 use Rattle.register.specs.Build.{nextFrom, judgeLine, takeLines, takenOf, builtOf, wordsAfter, blank}

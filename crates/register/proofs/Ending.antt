@@ -11,10 +11,10 @@ use lib.ListN.{length, take, drop, set, replicate, length-append, length-drop, l
 use lib.Seq.{drop-drop, take-append-seam, take-at, length-take-le}
 use Rattle.laws.specs.Sort.{sortOf}
 use Rattle.index.specs.Good.{mostNames, mostPostings}
-use Rattle.index.specs.Built.{Entry, wordOf, idSpan, allTriples, listsOf, runsOf, rowWords, wordsFrom, rowsOf, wordsOf}
-use Rattle.index.proofs.Runs.{lists-runs, length-runs}
-use Rattle.index.proofs.Read.{length-row-words}
-use Rattle.index.proofs.Built.{few-postings}
+use Rattle.postings.specs.Built.{Entry, wordOf, idSpan, allTriples, listsOf, runsOf, rowWords, wordsFrom, rowsOf, wordsOf}
+use Rattle.postings.proofs.Runs.{lists-runs, length-runs}
+use Rattle.postings.proofs.Read.{length-row-words}
+use Rattle.postings.proofs.Built.{few-postings}
 use Rattle.register.specs.declared.Built.{Built}
 use Rattle.register.specs.Steps.{Tables}
 use Rattle.register.specs.Build.{takenOf, entriesOf, roomFor, blank, padTo, builtOf, wordsAfter}

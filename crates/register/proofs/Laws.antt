@@ -11,8 +11,8 @@ use lib.ListN.{length, getD, replicate}
 use lib.Dec.{eqb}
 use Rattle.laws.proofs.Order.{eq-or-ne}
 use Rattle.index.specs.Good.{goodOf, Good}
-use Rattle.index.specs.Built.{Entry, Fit, wordsOf}
-use Rattle.index.proofs.Built.{fit-nil, fit-snoc, built-good}
+use Rattle.postings.specs.Built.{Entry, Fit, wordsOf}
+use Rattle.postings.proofs.Built.{fit-nil, fit-snoc, built-good}
 use Rattle.index.proofs.Laws.{refused-not-good}
 use Rattle.register.specs.Lines.{linesOf}
 use Rattle.register.specs.Build.{nextId, judgeLine, entryOf, Taken, takeLines, takenOf, entriesOf, roomFor, blank, padTo, builtOf, wordsAfter}

@@ -13,8 +13,8 @@ use Rattle.names.specs.Features.{featuresOf}
 use Rattle.names.proofs.Laws.{length-features}
 use Rattle.index.specs.Words.{nameCount, nameId, nameSize}
 use Rattle.index.specs.Lists.{listIn, featuresIn}
-use Rattle.index.specs.Built.{Entry, noEntry, Fit, wordsOf}
-use Rattle.index.proofs.Built.{built-name-count, built-id, built-size, built-list, built-listed, built-features}
+use Rattle.postings.specs.Built.{Entry, noEntry, Fit, wordsOf}
+use Rattle.postings.proofs.Built.{built-name-count, built-id, built-size, built-list, built-listed, built-features}
 use Rattle.register.specs.Lines.{linesOf, nthLine}
 use Rattle.register.specs.Build.{idIn, nameOf, judgeNth, entryOf, nextId, takenOf, entriesOf, blank, padTo, builtOf, wordsAfter}
 use Rattle.register.proofs.Judging.{good-line}

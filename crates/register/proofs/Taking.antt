@@ -15,9 +15,9 @@ use Rattle.frames.specs.Frames.{nameFrame}
 use Rattle.frames.proofs.Laws.{read-fits, read-roomy}
 use Rattle.frames.proofs.Layouts.{field-below, read-good}
 use Rattle.index.specs.Good.{mostNames, mostPostings, largestId}
-use Rattle.index.specs.Built.{Entry, noEntry, EntryFit, Fit, wordOf, tripleOf, triplesOf, allTriples}
-use Rattle.index.proofs.Entries.{length-entries}
-use Rattle.index.proofs.Built.{fit-nil, fit-snoc, name-fit, triples-append}
+use Rattle.postings.specs.Built.{Entry, noEntry, EntryFit, Fit, wordOf, tripleOf, triplesOf, allTriples}
+use Rattle.postings.proofs.Entries.{length-entries}
+use Rattle.postings.proofs.Built.{fit-nil, fit-snoc, name-fit, triples-append}
 use Rattle.register.specs.Lines.{linesOf, lineLength}
 use Rattle.register.specs.Build.{idIn, nameOf, nextFrom, nextId, judgeLine, entryOf, Taken, takeLines, takenOf, entriesOf}
 use Rattle.register.specs.Steps.{Tables, Read}

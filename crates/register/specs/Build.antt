@@ -11,7 +11,7 @@ use Rattle.names.specs.Features.{featuresOf}
 use Rattle.frames.specs.Layouts.{isFrame, fieldsIn, nameIn}
 use Rattle.frames.specs.Frames.{nameFrame}
 use Rattle.index.specs.Good.{mostNames}
-use Rattle.index.specs.Built.{Entry, wordsOf}
+use Rattle.postings.specs.Built.{Entry, wordsOf}
 use Rattle.register.specs.Lines.{linesOf, nthLine}
 use Rattle.register.specs.declared.Built.{Built}
 

@@ -24,8 +24,7 @@ use Rattle.likeness.proofs.Sizes.{skipped-none}
 use Rattle.likeness.proofs.Least.{least-pos, least-within, similar-least}
 use Rattle.index.specs.Words.{nameCount, nameId, nameSize}
 use Rattle.index.specs.Good.{Good}
-use Rattle.index.specs.Lists.{listIn}
-use Rattle.index.specs.Built.{featureSpan, keyOf}
+use Rattle.index.specs.Lists.{listIn, featureSpan, keyOf}
 use Rattle.index.proofs.Laws.{good-name-within, held-le-size}
 use Rattle.search.specs.Method.{orderedFor, listsFor, heldBy, signatures, remains, laterCount, sharedWith, listed, answersBelow, answersOf}
 use Rattle.search.proofs.Candidates.{remains-end}

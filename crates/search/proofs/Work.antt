@@ -29,8 +29,7 @@ use Rattle.likeness.specs.Least.{leastCount}
 use Rattle.likeness.proofs.Least.{least-pos, least-within}
 use Rattle.index.specs.Words.{nameCount, nameId, nameSize}
 use Rattle.index.specs.Good.{Good, mostNames, mostPostings}
-use Rattle.index.specs.Lists.{listIn}
-use Rattle.index.specs.Built.{featureSpan, keyOf}
+use Rattle.index.specs.Lists.{listIn, featureSpan, keyOf}
 use Rattle.index.proofs.Laws.{good-ascending, good-named, good-names-most, good-name-within}
 use Rattle.names.specs.Features.{mostFeatures}
 use Rattle.search.specs.Method.{namesOf, orderedFor, listsFor, heldBy, signatures, signaturePostings, remains, remaining, laterCount, touchesAt, sizesEnd, touchesOfSize, touchesOf}

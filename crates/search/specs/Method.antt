@@ -15,8 +15,7 @@ use Rattle.names.specs.Features.{mostFeatures}
 use Rattle.likeness.specs.Sizes.{isSearched}
 use Rattle.likeness.specs.Least.{leastCount}
 use Rattle.index.specs.Words.{nameCount, nameId, nameSize}
-use Rattle.index.specs.Lists.{listIn}
-use Rattle.index.specs.Built.{featureSpan, keyOf}
+use Rattle.index.specs.Lists.{listIn, featureSpan, keyOf}
 
 -- ---- one size: the lists of the query's features, in their order
 

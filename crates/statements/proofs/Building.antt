@@ -15,7 +15,7 @@ use Rattle.names.specs.Shared.{sharedOf}
 use Rattle.names.proofs.Laws.{length-features}
 use Rattle.index.specs.Words.{nameCount, nameId, nameSize}
 use Rattle.index.specs.Good.{goodOf}
-use Rattle.index.specs.Built.{Entry, wordsOf}
+use Rattle.postings.specs.Built.{Entry, wordsOf}
 use Rattle.index.specs.Lists.{featuresIn}
 use Rattle.register.specs.Lines.{linesOf, nthLine}
 use Rattle.register.specs.Build.{idIn, nameOf, wordsAfter, builtOf}

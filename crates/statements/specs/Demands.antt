@@ -20,7 +20,7 @@ use Rattle.likeness.specs.Fractions.{FractionLe, numerator, denominator, raised
 use Rattle.likeness.specs.Terms.{lowestTerms}
 use Rattle.index.specs.Words.{nameCount, nameId, nameSize}
 use Rattle.index.specs.Good.{goodOf, Good}
-use Rattle.index.specs.Built.{wordsOf}
+use Rattle.postings.specs.Built.{wordsOf}
 use Rattle.index.specs.Lists.{listIn, featuresIn}
 use Rattle.register.specs.Lines.{linesOf, nthLine}
 use Rattle.register.specs.Build.{idIn, nameOf, entryOf, judgeNth, builtOf, wordsAfter}

@@ -11,7 +11,7 @@ use Rattle.names.specs.Shared.{sharedOf}
 use Rattle.likeness.specs.Measures.{isSimilar}
 use Rattle.likeness.specs.Sizes.{isSearched}
 use Rattle.likeness.specs.Least.{leastCount}
-use Rattle.index.specs.Built.{Entry, wordsOf}
+use Rattle.postings.specs.Built.{Entry, wordsOf}
 use Rattle.search.specs.Method.{sharedWith, touchesOfSize, touchesOf, answersOf}
 use Rattle.search.specs.Answers.{numberIn, searchOf}
 

@@ -1,13 +1,12 @@
--- `place_for_good` meets its contract: as `list_for_good`, with the place in numbers.
-use mathlib.Core.Path.{_≡_, sym, ap, ap₂, _∙_}
-use mathlib.Core.List.{List}
-use Prim.Native.Nat.{ℕ, _+_, _*_, _<_}
+-- `place_for_good` meets its contract: a row of the size and the feature stands at its place among the rows, or there is none.
+use mathlib.Core.Path.{_≡_, sym, ap, _∙_}
+use Prim.Native.Nat.{ℕ, _<_}
 use native.Mathlib.Omega.{arith}
 use borrow.Author.Needs.{needs}
 use lib.ListN.{getD}
-use Rattle.index.specs.Built.{keyOf}
-use Rattle.index.specs.Part.{Span, none}
-use Rattle.index.specs.Lists.{rowKey, spanIn, spanAt}
+use Rattle.index.specs.Words.{rowStart}
+use Rattle.index.specs.Lists.{keyOf, rowKey}
+use Rattle.index.specs.Part.{Span}
 use Rattle.index.proofs.Laws.{good-three}
 use Rattle.index.proofs.Rows.{row-within, span-wide, span-met, span-other, span-after, span-row}
 use Rattle.index.proofs.place_for_good.Statement.{statement}
@@ -20,7 +19,8 @@ fits c i = omega (arith, c .shared-slice-known .given i)
 returns : tie.Need-returns
 returns c =
     let s = c .before .before in
-    let e = span-wide (s .args .words .now) (s .pre) (fits (c .before)) (s .args .size) (s .args .feature) (c .if1 .taken) in
+    let t = c .if1 .taken in
+    let e = span-wide (s .args .words .now) (s .pre) (fits (c .before)) (s .args .size) (s .args .feature) (omega arith) in
     (sym (ap (λ (p : Span). p .start) e), sym (ap (λ (p : Span). p .count) e))
 
 row-count-requires : tie.Need-row-count-requires
@@ -41,17 +41,10 @@ row-key-requires c κs =
     let e = c .before .before .row-count .ensures .0 in
     row-within _ (s .pre) _ (omega arith)
 
-name-count-requires : tie.Need-name-count-requires
-name-count-requires c κs = good-three _ (c .before .before .before .before .before .before .before .pre)
-
-add-start : tie.Need-add-start
-add-start c = search needs
-
-mul-start : tie.Need-mul-start
-mul-start c = search needs
-
-add-start-2 : tie.Need-add-start-2
-add-start-2 c = search needs
+row-start-requires : tie.Need-row-start-requires
+row-start-requires c κs =
+    let d = c .before .before .before .before .row-count .ensures in
+    (good-three _ (c .before .before .before .before .before .before .before .pre), omega arith)
 
 row-place-requires : tie.Need-row-place-requires
 row-place-requires c κs =
@@ -59,8 +52,8 @@ row-place-requires c κs =
     let e = c .before .before .before .before .before .row-count .ensures .0 in
     row-within _ (s .pre) _ (omega arith)
 
-add-start-3 : tie.Need-add-start-3
-add-start-3 c = search needs
+add-start : tie.Need-add-start
+add-start c = search needs
 
 row-length-requires : tie.Need-row-length-requires
 row-length-requires c κs =
@@ -76,9 +69,11 @@ returns-2 c =
     let e = d .ensures .0 in
     let r = c .before .before .before .before .before .before .rows-below .result in
     let f : rowKey (s .args .words .now) r ≡ keyOf (s .args .size) (s .args .feature) = sym (c .before .before .before .before .row-key .ensures) ∙ c .before .before .before .if3 .taken in
-    let g = span-met (s .args .words .now) (s .pre) (fits k) (s .args .size) (s .args .feature) r (omega arith) (omega arith) f
-    ∙ span-row (s .args .words .now) r (3 + c .before .before .name-count .result + 4 * d .result) (c .before .row-place .result) (c .row-length .result) (omega arith) (ap₂ (λ (n k : ℕ). 3 + n + 4 * k) (c .before .before .name-count .ensures .0) e) (c .before .row-place .ensures .0) (c .row-length .ensures .0) in
-    (sym (ap (λ (p : Span). p .start) g), sym (ap (λ (p : Span). p .count) g))
+    let g = span-met (s .args .words .now) (s .pre) (fits k) (s .args .size) (s .args .feature) r (omega arith) (omega arith) f in
+    let b = c .before .before .row-start in
+    let t = b .ensures .0 ∙ ap (rowStart (s .args .words .now)) e in
+    let h = g ∙ span-row (s .args .words .now) r (b .result) (c .before .row-place .result) (c .row-length .result) (omega arith) t (c .before .row-place .ensures .0) (c .row-length .ensures .0) in
+    (sym (ap (λ (p : Span). p .start) h), sym (ap (λ (p : Span). p .count) h))
 
 returns-3 : tie.Need-returns-3
 returns-3 c =
@@ -108,12 +103,9 @@ place-for-good-spec =
     add-key
     rows-below-requires
     row-key-requires
-    name-count-requires
-    add-start
-    mul-start
-    add-start-2
+    row-start-requires
     row-place-requires
-    add-start-3
+    add-start
     row-length-requires
     returns-2
     returns-3

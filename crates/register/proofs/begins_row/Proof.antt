@@ -6,7 +6,7 @@ use borrow.Author.Needs.{needs}
 use lib.ListN.{getD}
 use mathlib.Core.Bool.{Bool, true, not}
 use lib.Dec.{eqb}
-use Rattle.index.specs.Built.{idSpan}
+use Rattle.postings.specs.Built.{idSpan}
 use Rattle.register.specs.Steps.{begins}
 use Rattle.register.proofs.begins_row.Statement.{statement}
 use Rattle.register.proofs.begins_row.Tie as tie

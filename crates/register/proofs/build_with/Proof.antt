@@ -9,7 +9,7 @@ use lib.Dec.{leb}
 use lib.ListN.{length, take, drop, replicate, length-append}
 use lib.Seq.{length-take-le, take-at}
 use Rattle.laws.specs.Sort.{sortOf}
-use Rattle.index.specs.Built.{runsOf, wordsFrom, wordsOf}
+use Rattle.postings.specs.Built.{runsOf, wordsFrom, wordsOf}
 use Rattle.register.specs.Build.{entriesOf, blank, padTo}
 use Rattle.register.proofs.Ending.{Held, held, built-bad, built-over, built-in, words-of}
 use Rattle.register.proofs.build_with.Statement.{statement}

@@ -6,7 +6,7 @@ use Prim.Native.Nat.{ℕ, _+_, _*_, _%_, _≤_, _<_, _-_}
 use native.Mathlib.Omega.{arith}
 use lib.ListN.{length, take}
 use lib.Seq.{take-all}
-use Rattle.index.specs.Built.{runsOf}
+use Rattle.postings.specs.Built.{runsOf}
 use Rattle.register.specs.Steps.{begins}
 use Rattle.register.proofs.Rows.{rows-nil, rows-step, bit-most}
 use Rattle.register.proofs.count_rows.Statement.{statement}

@@ -7,7 +7,7 @@ use borrow.Author.Needs.{needs}
 use borrow.Author.Tests.{le-leb, lt-leb}
 use lib.ListN.{length, drop, replicate, length-append, length-drop}
 use lib.Seq.{length-take-le, take-at}
-use Rattle.index.specs.Built.{runsOf, wordsFrom}
+use Rattle.postings.specs.Built.{runsOf, wordsFrom}
 use Rattle.register.specs.Build.{blank, padTo}
 use Rattle.register.proofs.Ending.{mid-end, length-mid, length-from}
 use Rattle.register.proofs.finish.Statement.{statement}

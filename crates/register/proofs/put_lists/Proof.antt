@@ -5,7 +5,7 @@ use Prim.Native.Nat.{ℕ, _+_, _*_, _%_, _≤_, _<_, _-_}
 use native.Mathlib.Omega.{arith}
 use lib.ListN.{length, getD, set, length-set, length-map, List·getD-map}
 use Rattle.laws.proofs.Tables.{tableOver, over-nil, over-step}
-use Rattle.index.specs.Built.{idSpan}
+use Rattle.postings.specs.Built.{idSpan}
 use Rattle.register.proofs.Over.{over-all}
 use Rattle.register.proofs.put_lists.Statement.{statement}
 use Rattle.register.proofs.put_lists.Tie as tie

@@ -6,7 +6,7 @@ use native.Mathlib.Omega.{arith}
 use native.Mathlib.Numerals.{add-one}
 use lib.ListN.{length, getD, set, length-set, length-map, List·getD-map}
 use lib.Seq.{paste, paste-zero, paste-suc}
-use Rattle.index.specs.Built.{tripleOf}
+use Rattle.postings.specs.Built.{tripleOf}
 use Rattle.register.proofs.put_triples.Statement.{statement}
 use Rattle.register.proofs.put_triples.Tie as tie
 

@@ -6,7 +6,7 @@ use native.Mathlib.Omega.{arith}
 use borrow.Author.Needs.{needs}
 use borrow.Rule.Slice.PartMut.{putMid}
 use lib.ListN.{length, set, length-set}
-use Rattle.index.specs.Built.{runsOf, wordsFrom}
+use Rattle.postings.specs.Built.{runsOf, wordsFrom}
 use Rattle.register.proofs.Ending.{put-all, put-long, length-from}
 use Rattle.register.proofs.put_words.Statement.{statement}
 use Rattle.register.proofs.put_words.Tie as tie

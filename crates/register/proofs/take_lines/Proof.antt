@@ -10,7 +10,7 @@ use lib.Seq.{length-take-le, paste}
 use Rattle.names.specs.Names.{judgeOf}
 use Rattle.names.specs.Features.{featuresOf}
 use Rattle.index.specs.Good.{mostNames, mostPostings}
-use Rattle.index.specs.Built.{tripleOf}
+use Rattle.postings.specs.Built.{tripleOf}
 use Rattle.register.proofs.Lines.{line-ends}
 use Rattle.register.proofs.Taking.{Reached, Turn, reached-nil, reached-all, turn-less, turn-few, turn-bad, turn-name, turn-id, turn-room, turn-more}
 use Rattle.register.proofs.take_lines.Statement.{statement}

@@ -10,8 +10,8 @@ use native.Mathlib.Omega.{arith}
 use lib.ListN.{length, getD, take}
 use lib.Seq.{take-suc, length-take-le, getD-take}
 use Rattle.laws.proofs.Order.{eq-or-ne}
-use Rattle.index.specs.Built.{Row, idSpan, oneRow, longerRow, joinRow, runsOf}
-use Rattle.index.proofs.Runs.{join-nil, join-same, join-other}
+use Rattle.postings.specs.Built.{Row, idSpan, oneRow, longerRow, joinRow, runsOf}
+use Rattle.postings.proofs.Runs.{join-nil, join-same, join-other}
 
 -- ---- what stands behind the first row does not matter to a posting in front
 

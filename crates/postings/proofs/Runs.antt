@@ -16,7 +16,7 @@ use Rattle.laws.proofs.Members.{member-head, member-tail, member-cases, member-
 use Rattle.laws.proofs.Order.{eq-or-ne}
 use Rattle.laws.proofs.Sort.{above-member, above-members, ascending-nil, ascending-one, ascending-cons, ascending-above, ascending-rest, ascending-distinct, ascending-append}
 use Rattle.laws.proofs.Images.{count-map, count-members, ascending-map}
-use Rattle.index.specs.Built.{Row, noRow, idSpan, oneRow, joinRow, runsOf, listsOf, rowTriples, triplesFrom, RowFit, RowsFit}
+use Rattle.postings.specs.Built.{Row, noRow, idSpan, oneRow, joinRow, runsOf, listsOf, rowTriples, triplesFrom, RowFit, RowsFit}
 
 -- ---- one posting in front
 

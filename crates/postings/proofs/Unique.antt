@@ -15,18 +15,19 @@ use Rattle.laws.proofs.Lists.{length-tabulate, getD-tabulate, tabulate-ext}
 use Rattle.laws.proofs.Members.{bool-same}
 use Rattle.laws.proofs.Sort.{ascending-distinct, ascending-unique, ascending-sort, member-sort, length-sort, sort-same}
 use Rattle.laws.proofs.Images.{ascending-tabulate, map-tabulate, each-tabulate}
 use Rattle.index.specs.Words.{nameCount, rowCount, nameWord, nameId, nameSize, rowSize, rowFeature, listAt, total}
 use Rattle.index.specs.Good.{Good}
 use Rattle.index.specs.Lists.{featuresIn}
-use Rattle.index.specs.Built.{Entry, noEntry, wordOf, idSpan, tripleOf, allTriples, Row, noRow, triplesFrom, runsOf, wordsFrom, rowsOf, wordsOf, EntryFit, Fit}
-use Rattle.index.specs.Contents.{namesIn, rowIn, rowsIn, entryIn, entriesIn, Narrow}
-use Rattle.index.specs.Plain.{Plain}
-use Rattle.index.proofs.Plain.{good-plain}
-use Rattle.index.proofs.Read.{words-in}
-use Rattle.index.proofs.Runs.{runs-unique, triples-place, triples-member, triples-ascending}
-use Rattle.index.proofs.Holders.{features-row, features-member, row-of-name, features-ascending, size-features, rows-fit}
-use Rattle.index.proofs.Entries.{entries-place, entries-member, distinct-entries}
-use Rattle.index.proofs.Built.{fit-at, built-name-count, built-id, built-features, built-good, built-narrow, built-words, built-names-in}
+use Rattle.postings.specs.Built.{Entry, noEntry, wordOf, idSpan, tripleOf, allTriples, Row, noRow, triplesFrom, runsOf, wordsFrom, rowsOf, wordsOf, EntryFit, Fit}
+use Rattle.postings.specs.Contents.{namesIn, rowIn, rowsIn, entryIn, entriesIn, Narrow}
+use Rattle.postings.specs.Plain.{Plain}
+use Rattle.index.proofs.Laws.{holder-size, features-length}
+use Rattle.postings.proofs.Plain.{good-plain}
+use Rattle.postings.proofs.Read.{words-in}
+use Rattle.postings.proofs.Runs.{runs-unique, triples-place, triples-member, triples-ascending}
+use Rattle.postings.proofs.Holders.{features-row, row-features, features-ascending, rows-fit}
+use Rattle.postings.proofs.Entries.{entries-place, entries-member, distinct-entries}
+use Rattle.postings.proofs.Built.{fit-at, built-name-count, built-id, built-features, built-good, built-narrow, built-words, built-names-in}
 
 -- ---- what stands in any words, by place
 
@@ -123,13 +124,13 @@ module _ (w : List ℕ) (g : Good w) (narrow : Narrow w) where
     where
       fit : (i : ℕ) → i < nameCount w → EntryFit (entryIn w i)
       fit i h =
-          let s = size-features w facts i h in
+          let s = features-length w g i h in
           record {
             id = facts .id i h;
             least = (let b = facts .least i h in omega arith);
             most = (let b = facts .most i h in omega arith);
-            distinct = ascending-distinct (featuresIn w (nameId w i)) (features-ascending w facts (nameId w i));
-            below = λ f m. (let p = features-row w (nameId w i) f m in let b = narrow (p .0) (p .1) in let e = p .2 in omega arith);
+            distinct = ascending-distinct (featuresIn w (nameId w i)) (features-ascending w g (nameId w i));
+            below = λ f m. (let p = features-row w (nameId w i) f m in let b = narrow (p .0) (p .1) in let e = p .3 in omega arith);
           }
 
   good-names : namesIn w ≡ map wordOf (entriesIn w)
@@ -139,12 +140,12 @@ module _ (w : List ℕ) (g : Good w) (narrow : Narrow w) where
       ∙ sym (map-tabulate wordOf (entryIn w) (nameCount w))
     where
       same : (i : ℕ) → i < nameCount w → nameWord w i ≡ wordOf (entryIn w i)
-      same i h = let s = size-features w facts i h in omega arith
+      same i h = let s = features-length w g i h in omega arith
 
   good-triples : triplesFrom (rowsIn w) ≡ sortOf (allTriples (entriesIn w))
   good-triples =
       ascending-unique (triplesFrom (rowsIn w)) (sortOf (allTriples (entriesIn w)))
-      (triples-ascending (rowsIn w) (rows-fit w facts narrow))
+      (triples-ascending (rowsIn w) (rows-fit w g narrow))
       (ascending-sort (allTriples (entriesIn w)) (distinct-entries (entriesIn w) (good-fit .ids) (good-fit .each)))
       (λ k. bool-same (member k (triplesFrom (rowsIn w))) (member k (allTriples (entriesIn w))) (there k) (back k) ∙ sym (member-sort k (allTriples (entriesIn w))))
     where
@@ -152,28 +153,28 @@ module _ (w : List ℕ) (g : Good w) (narrow : Narrow w) where
       there k m =
           let p = rows-in-place w k m in
           let q = facts .named (p .0) (p .2) (p .1) (p .3) in
-          let s = size-features w facts (q .0) (q .1) in
+          let s = features-length w g (q .0) (q .1) in
           let e : tripleOf (length (featuresIn w (nameId w (q .0)))) (rowFeature w (p .0)) (nameId w (q .0)) ≡ k =
           ap₂ (λ (y x : ℕ). tripleOf y (rowFeature w (p .0)) x) (s ∙ q .3) (q .2) ∙ p .4
           in
           ap (λ (x : ℕ). member x (allTriples (entriesIn w))) (sym e)
           ∙ entries-in-member w (q .0) (rowFeature w (p .0)) (q .1)
-          (features-member w (nameId w (q .0)) (p .0) (p .1) (ap (λ (x : ℕ). member x (listAt w (p .0))) (q .2) ∙ p .3))
+          (row-features w (nameId w (q .0)) (p .0) (p .1) (ap (λ (x : ℕ). member x (listAt w (p .0))) (q .2) ∙ p .3))
 
       back : (k : ℕ) → member k (allTriples (entriesIn w)) ≡ true → member k (triplesFrom (rowsIn w)) ≡ true
       back k m =
           let p = entries-in-place w k m in
           let q = features-row w (nameId w (p .0)) (p .2) (p .3) in
-          let s = size-features w facts (p .0) (p .1) in
-          let t = row-of-name w facts (q .0) (p .0) (q .1) (p .1) (q .3) in
+          let s = features-length w g (p .0) (p .1) in
+          let t = holder-size w g (p .0) (p .1) (q .0) (q .1) (q .2) in
           let e : tripleOf (rowSize w (q .0)) (rowFeature w (q .0)) (nameId w (p .0)) ≡ k =
-          ap₂ (λ (y x : ℕ). tripleOf y x (nameId w (p .0))) (t ∙ sym s) (q .2) ∙ p .4
+          ap₂ (λ (y x : ℕ). tripleOf y x (nameId w (p .0))) (t ∙ sym s) (q .3) ∙ p .4
           in
-          ap (λ (x : ℕ). member x (triplesFrom (rowsIn w))) (sym e) ∙ rows-in-member w (q .0) (nameId w (p .0)) (q .1) (q .3)
+          ap (λ (x : ℕ). member x (triplesFrom (rowsIn w))) (sym e) ∙ rows-in-member w (q .0) (nameId w (p .0)) (q .1) (q .2)
 
   good-rows : rowsIn w ≡ rowsOf (entriesIn w)
   unfolding rowsOf
-  good-rows = sym (runs-unique (rowsIn w) (rows-fit w facts narrow)) ∙ ap runsOf good-triples
+  good-rows = sym (runs-unique (rowsIn w) (rows-fit w g narrow)) ∙ ap runsOf good-triples
 
   -- up to its total, it is written by its own name words and rows
   pub good-written : take (total w) w ≡ wordsFrom (namesIn w) (rowsIn w)
@@ -218,8 +219,8 @@ good-unique w v g h narrow wide e same =
         features : featuresIn w (nameId w i) ≡ featuresIn v (nameId v i)
         features =
             ascending-unique (featuresIn w (nameId w i)) (featuresIn v (nameId v i))
-            (features-ascending w (good-plain w g) (nameId w i))
-            (features-ascending v (good-plain v h) (nameId v i))
+            (features-ascending w g (nameId w i))
+            (features-ascending v h (nameId v i))
             (λ f. same i f b ∙ ap (λ (x : ℕ). member f (featuresIn v x)) id)
 
 -- a good index with the names and features of given names is their index

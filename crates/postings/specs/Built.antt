@@ -12,7 +12,8 @@ use Rattle.laws.specs.Lists.{member, Distinct, Ascending}
 use Rattle.laws.specs.Each.{Each}
 use Rattle.laws.specs.Sort.{sortOf}
 use Rattle.names.specs.Features.{mostFeatures}
 use Rattle.index.specs.Good.{mostNames, largestId, leastSize}
+use Rattle.index.specs.Lists.{featureSpan, keyOf}
 
 -- ---- a name with its features
 
@@ -30,17 +31,9 @@ wordOf e = e .id * 256 + length (e .features)
 
 -- ---- a posting as one number, which orders by size, then feature, then id
 
--- features are below this
-abbrev pub featureSpan : ℕ
-featureSpan = 2 ^ 32
-
 -- ids are below this
 abbrev pub idSpan : ℕ
 idSpan = 2 ^ 16
-
--- the size and the feature of a row as one number
-abbrev pub keyOf : ℕ → ℕ → ℕ
-keyOf size feature = size * featureSpan + feature
 
 abbrev pub tripleOf : ℕ → ℕ → ℕ → ℕ
 tripleOf size feature id = keyOf size feature * idSpan + id

@@ -23,17 +23,19 @@ use Rattle.laws.proofs.Images.{sort-map, count-tabulate, tabulate-of}
 use Rattle.names.specs.Names.{judgeOf}
 use Rattle.names.specs.Features.{characters, mostFeatures, featuresOf}
 use Rattle.names.proofs.Laws.{size-within, distinct-features, feature-fits}
 use Rattle.index.specs.Words.{nameCount, rowCount, postingCount, nameWord, nameId, nameSize, rowSize, rowFeature, rowPlace, rowLength, rowWidth, namesStart, listAt, total}
 use Rattle.index.specs.Good.{mostNames, mostPostings, largestId, rowBefore, listsWith, Good}
-use Rattle.index.specs.Lists.{listIn, featuresIn}
-use Rattle.index.specs.Built.{Entry, noEntry, wordOf, featureSpan, idSpan, tripleOf, triplesOf, allTriples, Row, noRow, runsOf, listsOf, triplesFrom, RowFit, RowsFit, rowWords, wordsFrom, rowsOf, wordsOf, EntryFit, Fit}
-use Rattle.index.specs.Contents.{namesIn, rowIn, rowsIn, entryIn, entriesIn, Narrow}
-use Rattle.index.specs.Plain.{Named, Plain}
-use Rattle.index.proofs.Plain.{plain-good}
-use Rattle.index.proofs.Read.{read-name-count, read-row-count, read-posting-count, read-name, read-size, read-feature, read-place, read-length, read-list, read-total, read-sum, read-narrow, read-names, read-rows}
-use Rattle.index.proofs.Runs.{length-runs, triples-runs, triples-place, triples-member, runs-fit, count-triples}
-use Rattle.index.proofs.Holders.{before-of, list-row, name-unique, row-found, features-list, features-ascending}
-use Rattle.index.proofs.Entries.{entries-place, entries-member, length-entries, distinct-entries, count-entries}
+use Rattle.index.specs.Lists.{listIn, featuresIn, featureSpan}
+use Rattle.postings.specs.Built.{Entry, noEntry, wordOf, idSpan, tripleOf, triplesOf, allTriples, Row, noRow, runsOf, listsOf, triplesFrom, RowFit, RowsFit, rowWords, wordsFrom, rowsOf, wordsOf, EntryFit, Fit}
+use Rattle.postings.specs.Contents.{namesIn, rowIn, rowsIn, entryIn, entriesIn, Narrow}
+use Rattle.postings.specs.Plain.{Named, Plain}
+use Rattle.index.proofs.Facts.{Before, row-before}
+use Rattle.index.proofs.Laws.{good-ids-apart, features-member}
+use Rattle.postings.proofs.Plain.{plain-good}
+use Rattle.postings.proofs.Read.{read-name-count, read-row-count, read-posting-count, read-name, read-size, read-feature, read-place, read-length, read-list, read-total, read-sum, read-narrow, read-names, read-rows}
+use Rattle.postings.proofs.Runs.{length-runs, triples-runs, triples-place, triples-member, runs-fit, count-triples}
+use Rattle.postings.proofs.Holders.{listed-row, row-list, features-ascending}
+use Rattle.postings.proofs.Entries.{entries-place, entries-member, length-entries, distinct-entries, count-entries}
 
 -- ---- the rows of names within the limits
 
@@ -239,6 +241,7 @@ module _ (es : List Entry) (fit : Fit es) (rest : List ℕ) where
       )
 
   built-plain : Plain (wordsOf es ++ rest)
+  unfolding Before
   built-plain =
       record {
         head = (let a = built-total es rest in let b = length-append (wordsOf es) rest in omega arith);
@@ -281,7 +284,7 @@ module _ (es : List Entry) (fit : Fit es) (rest : List ℕ) where
           let t = built-row-size es rest (r + 1) h in
           let u = built-row-feature es rest r (omega arith) in
           let v = built-row-feature es rest (r + 1) h in
-          before-of (wordsOf es ++ rest) r (r + 1) (rw (s, t, u, v) c)
+          row-before (wordsOf es ++ rest) r (r + 1) (rw (s, t, u, v) c)
 
       named : (r id : ℕ) → r < rowCount (wordsOf es ++ rest) → member id (listAt (wordsOf es ++ rest) r) ≡ true
           → Named (wordsOf es ++ rest) (rowSize (wordsOf es ++ rest) r) id
@@ -310,7 +313,7 @@ module _ (es : List Entry) (fit : Fit es) (rest : List ℕ) where
   entry-unique : (i j : ℕ) → i < length es → j < length es → (getD es i noEntry) .id ≡ (getD es j noEntry) .id → i ≡ j
   entry-unique i j h k e =
       let n = built-name-count es rest in
-      name-unique (wordsOf es ++ rest) built-plain i j (omega arith) (omega arith) (built-id i h ∙ e ∙ sym (built-id j k))
+      good-ids-apart (wordsOf es ++ rest) built-good i j (omega arith) (omega arith) (built-id i h ∙ e ∙ sym (built-id j k))
 
   -- whatever is listed, under any size and feature, is a name of that size with that feature
   pub built-listed : (size f id : ℕ) → member id (listIn (wordsOf es ++ rest) size f) ≡ true
@@ -320,7 +323,7 @@ module _ (es : List Entry) (fit : Fit es) (rest : List ℕ) where
       × (length ((getD es i noEntry) .features) ≡ size)
       × (member f ((getD es i noEntry) .features) ≡ true)
   built-listed size f id m =
-      let p = list-row (wordsOf es ++ rest) size f id m in
+      let p = listed-row (wordsOf es ++ rest) size f id m in
       let q = row-entry (p .0) id (p .1) (p .4) in
       (q .0, q .1, q .2, q .3 ∙ p .2, ap (λ (x : ℕ). member x ((getD es (q .0) noEntry) .features)) (sym (p .3)) ∙ q .4)
 
@@ -338,7 +341,7 @@ module _ (es : List Entry) (fit : Fit es) (rest : List ℕ) where
       (λ m.
       let p = entry-row i f h m in
       ap (member ((getD es i noEntry) .id))
-      (ap₂ (listIn (wordsOf es ++ rest)) (sym (p .2)) (sym (p .3)) ∙ row-found (wordsOf es ++ rest) built-plain (p .0) (p .1))
+      (ap₂ (listIn (wordsOf es ++ rest)) (sym (p .2)) (sym (p .3)) ∙ row-list (wordsOf es ++ rest) built-good (p .0) (p .1))
       ∙ p .4)
 
   -- a name stands for its own features
@@ -347,7 +350,7 @@ module _ (es : List Entry) (fit : Fit es) (rest : List ℕ) where
   built-features i f h =
       let n = built-name-count es rest in
       ap (λ (x : ℕ). member f (featuresIn (wordsOf es ++ rest) x)) (sym (built-id i h))
-      ∙ features-list (wordsOf es ++ rest) built-plain i f (omega arith)
+      ∙ features-member (wordsOf es ++ rest) built-good i (omega arith) f
       ∙ ap₂ (λ (x y : ℕ). member x (listIn (wordsOf es ++ rest) y f)) (built-id i h) (built-size i h)
       ∙ built-list i f h
 
@@ -358,7 +361,7 @@ module _ (es : List Entry) (fit : Fit es) (rest : List ℕ) where
       ascending-unique
       (featuresIn (wordsOf es ++ rest) ((getD es i noEntry) .id))
       (sortOf ((getD es i noEntry) .features))
-      (features-ascending (wordsOf es ++ rest) built-plain ((getD es i noEntry) .id))
+      (features-ascending (wordsOf es ++ rest) built-good ((getD es i noEntry) .id))
       (ascending-sort ((getD es i noEntry) .features) (fit-at es fit i h .distinct))
       (λ f. built-features i f h ∙ sym (member-sort f ((getD es i noEntry) .features)))
 

@@ -4,9 +4,9 @@
 use mathlib.Core.List.{List}
 use Prim.Native.Nat.{ℕ, _<_}
 use Rattle.laws.specs.Lists.{tabulate}
 use Rattle.index.specs.Words.{nameCount, rowCount, nameWord, nameId, rowSize, rowFeature, listAt}
-use Rattle.index.specs.Lists.{featuresIn}
-use Rattle.index.specs.Built.{Entry, featureSpan, keyOf, Row}
+use Rattle.index.specs.Lists.{featuresIn, featureSpan, keyOf}
+use Rattle.postings.specs.Built.{Entry, Row}
 
 -- the name words, in order
 unfoldable pub namesIn : List ℕ → List ℕ

@@ -1,20 +1,18 @@
 -- Worked examples of an index, by computation: the index of LANE (10), LANES (11) and PLANE (12) is good, and a list of it.
 -- Assumes nothing.
 use mathlib.Core.Path.{_≡_, refl}
-use mathlib.Core.Bool.{true, false}
+use mathlib.Core.Bool.{true}
 use mathlib.Core.List.{List, [], _∷_}
-use Prim.Native.Nat.{ℕ}
-use lib.ListN.{length, take, set}
 use Rattle.laws.specs.Lists.{member, countOf, tabulate}
 use Rattle.laws.specs.Below.{allBelow, anyBelow, sumBelow}
 use Rattle.laws.specs.First.{firstFrom}
 use Rattle.laws.specs.Sort.{insert, sortOf}
 use Rattle.names.specs.Names.{judgeOf}
 use Rattle.names.specs.Features.{padded, joined, gramAt, timesIn, numberAt, numbered, featuresBy, featuresOf}
 use Rattle.index.specs.Words.{nameWord, nameId, nameSize, rowSize, rowFeature, rowPlace, rowLength, posting, listAt}
 use Rattle.index.specs.Good.{headGood, nameGood, namesGood, rowBefore, placeDue, rowGood, rowsGood, isName, listGood, listsWith, listsGood, goodOf}
 use Rattle.index.specs.Lists.{rowIs, rowFor, listIn}
-use Rattle.index.specs.Built.{Entry, triplesOf, allTriples, joinRow, runsOf, listsOf, rowWords, wordsFrom, rowsOf, wordsOf}
+use Rattle.postings.specs.Built.{Entry, triplesOf, allTriples, joinRow, runsOf, listsOf, rowWords, wordsFrom, rowsOf, wordsOf}
 
 abbrev three : List Entry
 three =

@@ -17,7 +17,7 @@ use Rattle.laws.proofs.Members.{member-head, member-tail, member-nil, member-le
 use Rattle.laws.proofs.Sort.{above-member, ascending-above, ascending-rest}
 use Rattle.laws.proofs.Images.{count-map, count-all}
 use Rattle.names.specs.Features.{mostFeatures}
-use Rattle.index.specs.Built.{Entry, noEntry, idSpan, tripleOf, triplesOf, allTriples, EntryFit}
+use Rattle.postings.specs.Built.{Entry, noEntry, idSpan, tripleOf, triplesOf, allTriples, EntryFit}
 
 abbrev idIn : Entry → ℕ
 idIn e = e .id

@@ -1,0 +1,9 @@
+mod Cases
+pub mod Read
+pub mod Plain
+pub mod Runs
+pub mod Holders
+pub mod Entries
+pub mod Built
+pub mod Unique
+pub mod Pass
