@@ -4,6 +4,7 @@ mod Search
 mod Facts
 pub mod Laws
 mod Rows
+mod Sized
 pub mod Spans
 pub mod Read
 pub mod Plain

@@ -6,3 +6,4 @@ pub mod Built
 pub mod Part
 pub mod Plain
 pub mod Contents
+pub mod Sizes
