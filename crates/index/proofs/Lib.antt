@@ -3,6 +3,7 @@ mod Search
 pub mod Facts
 pub mod Laws
 mod Rows
+mod Sized
 pub mod Spans
 mod Check
 mod Names

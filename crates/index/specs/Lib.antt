@@ -3,3 +3,4 @@ pub mod Good
 pub mod Lists
 pub mod Check
 pub mod Part
+pub mod Sizes

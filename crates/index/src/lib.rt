@@ -12,6 +12,7 @@ ghost use Rattle.index.specs.Good.{headGood, nameGood, namesGood, rowsGo
 ghost use Rattle.index.specs.Check.{Named, Checked, Tallied};
 ghost use Rattle.index.specs.Part.{Part};
 ghost use Rattle.index.specs.Lists.{rowKey, spanIn, spanFor, namePlace, nameFor};
+ghost use Rattle.index.specs.Sizes.{rowsUnder};
 
 // ---- the layout: nothing else knows where a word stands
 
@@ -465,4 +466,46 @@ pub fn list_for(words: &[u32], size: u32, feature: u64) -> &[u32]
         return list_for_good(words, size, feature);
     }
     &words[0..0]
+}
+
+// ---- the lists of one size
+
+// The rows of a size: those from `from` on that stand before `to`.
+pub struct SizeRows {
+    pub from: usize,
+    pub to: usize,
+}
+
+// Where the rows of a size of a good index stand.
+pub fn rows_of_size(words: &[u32], size: u32) -> SizeRows
+    requires { ⌜ Good (now words) ⌝ }
+    ensures { λ r. ⌜ (r .from ≡ rowsUnder (now (words .entry)) size) × (r .to ≡ rowsUnder (now (words .entry)) (size + 1)) ⌝ }
+{
+    let all = row_count(words);
+    let from = rows_below(words, 0, all, size as u64 * 4294967296);
+    if size == 4294967295 {
+        return SizeRows { from, to: all };
+    }
+    let to = rows_below(words, from, all, (size as u64 + 1) * 4294967296);
+    SizeRows { from, to }
+}
+
+// What place_for_good finds, sought among the rows of the size alone.
+pub fn place_among(words: &[u32], from: usize, to: usize, size: u32, feature: u64) -> Place
+    requires { ⌜ Good (now words) × (from ≡ rowsUnder (now words) size) × (to ≡ rowsUnder (now words) (size + 1)) ⌝ }
+    ensures { λ p. ⌜ (p .start ≡ spanIn (now (words .entry)) size feature .start) × (p .count ≡ spanIn (now (words .entry)) size feature .count) ⌝ }
+{
+    if 0xFFFFFFFF < feature {
+        return Place { start: 0, count: 0 };
+    }
+    let key = size as u64 * 4294967296 + feature;
+    let row = rows_below(words, from, to, key);
+    if row < to {
+        if row_key(words, row) == key {
+            let start = row_start(words, row_count(words)) + row_place(words, row);
+            let count = row_length(words, row);
+            return Place { start, count };
+        }
+    }
+    Place { start: 0, count: 0 }
 }
