@@ -2,3 +2,4 @@ pub mod Figures
 pub mod Demands
 pub mod Fractions
 pub mod Building
+pub mod Program

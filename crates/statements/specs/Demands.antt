@@ -22,11 +22,19 @@ use Rattle.index.specs.Words.{nameCount, nameId, nameSize}
 use Rattle.index.specs.Good.{goodOf, Good}
 use Rattle.postings.specs.Built.{wordsOf}
 use Rattle.index.specs.Lists.{listIn, featuresIn}
+use Rattle.frames.specs.Layouts.{isFrame, nameIn, lineOf, readOf}
+use Rattle.frames.specs.Frames.{nameFrame, queryFrame, rowFrame, endFrame, refusalFrame, layouts, nameOut, queryOut, rowOut, endOut, refusalOut}
+use Rattle.frames.specs.declared.NameRead.{NameRead}
+use Rattle.frames.specs.declared.QueryRead.{QueryRead}
+use Rattle.frames.specs.declared.RowRead.the-variants.{Row}
+use Rattle.frames.specs.declared.EndRead.the-variants.{End}
+use Rattle.frames.specs.declared.RefusalRead.the-variants.{Refusal}
 use Rattle.register.specs.Lines.{linesOf, nthLine}
 use Rattle.register.specs.Build.{idIn, nameOf, entryOf, judgeNth, builtOf, wordsAfter}
 use Rattle.search.specs.Method.{namesOf, listsFor, signatures, signaturePostings, remaining, touchesOfSize, touchesOf, answersOf}
 use Rattle.search.specs.Answers.{numberIn, rowsIn, touchesIn, thresholdP, thresholdQ, searchOf, givenBy, roomOf, over, idColumn, sharedColumn, sizeColumn}
 use Rattle.search.specs.declared.Answer.{Answer}
+use Rattle.answers.specs.Output.{mostInput, registerEnd, programWords, openedOf, openWords, lineText, refusalLine, answersText, outputOf}
 
 -- ---- a search
 
@@ -310,3 +318,47 @@ pub record EndToEnd (register words : List ℕ) (a : Question) : Type 0 where
   pub twins : (i j : ℕ) → i < length (linesOf register) → j < length (linesOf register) → nameOf (nthLine register i) ≡ nameOf (nthLine register j)
       → (member (idIn (nthLine register i)) (rowIds (ofBuilt register words a)) ≡ true)
       ↔ (member (idIn (nthLine register j)) (rowIds (ofBuilt register words a)) ≡ true)
+
+-- ---- the frames
+
+-- what is written reads back, and a good line that was read is written again
+pub record Frames : Type 0 where
+  pub name-back : (id : ℕ) (name : List ℕ) (room : ℕ) → id < 65536 → Bytes name → length name ≤ 255 → length name ≤ room
+      → readOf nameFrame (lineOf nameFrame (id ∷ []) name) room ≡ nameOut (record { number = 0; id = id; len = length name })
+  pub query-back : (measure p q allowance : ℕ) (query : List ℕ) (room : ℕ) → measure < 256 → p < 65536 → q < 65536 → allowance < 4294967296
+      → Bytes query → length query ≤ 255 → length query ≤ room
+      → readOf queryFrame (lineOf queryFrame (measure ∷ p ∷ q ∷ allowance ∷ []) query) room
+      ≡ queryOut (record { number = 0; measure = measure; p = p; q = q; allowance = allowance; len = length query })
+  pub row-back : (id shared size : ℕ) → id < 65536 → shared < 256 → size < 256
+      → readOf rowFrame (lineOf rowFrame (id ∷ shared ∷ size ∷ []) []) 0 ≡ rowOut (Row id shared size)
+  pub end-back : (rows touches p q : ℕ) → rows < 65536 → touches < 4294967296 → p < 65536 → q < 65536
+      → readOf endFrame (lineOf endFrame (rows ∷ touches ∷ p ∷ q ∷ []) []) 0 ≡ endOut (End rows touches p q)
+  pub refusal-back : (number touches : ℕ) → number < 256 → touches < 4294967296
+      → readOf refusalFrame (lineOf refusalFrame (number ∷ touches ∷ []) []) 0 ≡ refusalOut (Refusal number touches)
+  pub name-again : (l : List ℕ) (room : ℕ) (r : NameRead) → nameOut r ≡ readOf nameFrame l room → r .number ≡ 0
+      → lineOf nameFrame (r .id ∷ []) (nameIn nameFrame l) ≡ l
+  pub query-again : (l : List ℕ) (room : ℕ) (r : QueryRead) → queryOut r ≡ readOf queryFrame l room → r .number ≡ 0
+      → lineOf queryFrame (r .measure ∷ r .p ∷ r .q ∷ r .allowance ∷ []) (nameIn queryFrame l) ≡ l
+  pub row-again : (l : List ℕ) (id shared size : ℕ) → rowOut (Row id shared size) ≡ readOf rowFrame l 0
+      → lineOf rowFrame (id ∷ shared ∷ size ∷ []) [] ≡ l
+  pub end-again : (l : List ℕ) (rows touches p q : ℕ) → endOut (End rows touches p q) ≡ readOf endFrame l 0
+      → lineOf endFrame (rows ∷ touches ∷ p ∷ q ∷ []) [] ≡ l
+  pub refusal-again : (l : List ℕ) (number touches : ℕ) → refusalOut (Refusal number touches) ≡ readOf refusalFrame l 0
+      → lineOf refusalFrame (number ∷ touches ∷ []) [] ≡ l
+  -- no line is a frame of two kinds
+  pub one-kind : (l : List ℕ) (i j : ℕ) → i < 5 → j < 5 → isFrame (getD layouts i rowFrame) l ≡ true → isFrame (getD layouts j rowFrame) l ≡ true → i ≡ j
+
+-- ---- the program
+
+pub record Program (input : List ℕ) : Type 0 where
+  -- too much input is refused with 8 and 0 touches, whatever it holds
+  pub too-much : mostInput < length input → outputOf input ≡ refusalLine 8 0
+  -- a refused register gives one refusal with the build's number and 0 touches
+  pub register-refused : length input ≤ mostInput
+      → (builtOf (take (registerEnd input) input) programWords .number ≡ 0 → ⊥)
+      → outputOf input ≡ refusalLine (builtOf (take (registerEnd input) input) programWords .number) 0
+  -- otherwise the answers of the query lines, from the good index that the register is
+  pub answered : length input ≤ mostInput
+      → builtOf (take (registerEnd input) input) programWords .number ≡ 0
+      → (outputOf input ≡ answersText (openWords input (replicate programWords 0)) (linesOf (drop (registerEnd input) input)))
+      × Good (openWords input (replicate programWords 0))
