@@ -44,14 +44,14 @@ pub program : (input : List ℕ) → Program input
 program input =
     record {
       too-much = λ h.
-      let e = opened-much input h in
-      output-refused input (λ z. absurd (omega arith)) ∙ ap (λ (n : ℕ). refusalLine n 0) e;
+          let e = opened-much input h in
+          output-refused input (λ z. absurd (omega arith)) ∙ ap (λ (n : ℕ). refusalLine n 0) e;
       register-refused = λ h n.
-      let e = opened-few input h in
-      output-refused input (λ z. n (sym e ∙ z)) ∙ ap (λ (k : ℕ). refusalLine k 0) e;
+          let e = opened-few input h in
+          output-refused input (λ z. n (sym e ∙ z)) ∙ ap (λ (k : ℕ). refusalLine k 0) e;
       answered = λ h z.
-      let e = opened-few input h in
-      (output-opened input (e ∙ z), opened-good input (replicate programWords 0) (lent ∙ e ∙ z));
+          let e = opened-few input h in
+          (output-opened input (e ∙ z), opened-good input (replicate programWords 0) (lent ∙ e ∙ z));
     }
   where
     lent : openedOf input (length {A = ℕ} (replicate programWords 0)) .number ≡ openedOf input programWords .number
