@@ -13,7 +13,7 @@ use Rattle.names.specs.Features.{mostFeatures}
 use Rattle.index.specs.Words.{nameCount, nameSize, namesStart}
 use Rattle.index.specs.Lists.{featureSpan, spanIn, listIn}
 use Rattle.index.specs.Good.{mostNames}
-use Rattle.search.specs.Method.{listsFor, heldBy, signatures, remains, laterCount, touchesAt, sharedWith, sizesEnd, touchesOfSize, touchesOf, listed}
+use Rattle.search.specs.Method.{namesOf, listsFor, heldBy, signatures, remains, laterCount, touchesAt, sharedWith, sizesEnd, touchesOfSize, touchesOf, listed}
 
 -- ---- the names, as their words
 
@@ -33,6 +33,10 @@ pub record Names (ns : List ℕ) : Type 0 where
 -- each id of the list is one of the names
 abbrev pub Named : List ℕ → List ℕ → Type 0
 Named ns l = (id : ℕ) → member id l ≡ true → (i : ℕ) × (i < length ns) × (idAt ns i ≡ id)
+
+-- 1 where a name has the size, 0 where none has
+unfoldable pub presentAt : List ℕ → ℕ → ℕ
+presentAt w y = cond (leb 1 (namesOf w y)) 1 0
 
 -- ---- the candidates met
 

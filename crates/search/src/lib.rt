@@ -12,8 +12,8 @@ ghost use Rattle.laws.specs.Below.{countBelow};
 ghost use Rattle.names.specs.Names.{judgeOf};
 ghost use Rattle.names.specs.Features.{mostFeatures, featuresOf};
 ghost use Rattle.index.specs.Good.{Good, mostNames};
-ghost use Rattle.search.specs.Method.{namesOf, sizesEnd, answersOf};
-ghost use Rattle.search.specs.Tables.{Names, Named, MetBy, tallied, tested, kept, startOf, smallKey, cutAt, cutLists, Readable, remainTable, Gathered, Narrowed, nameWords, Asked, Walked, Sized, answersTable, Stepped, Covered, placesIn, idAt};
+ghost use Rattle.search.specs.Method.{sizesEnd, answersOf};
+ghost use Rattle.search.specs.Tables.{Names, Named, presentAt, MetBy, tallied, tested, kept, startOf, smallKey, cutAt, cutLists, Readable, remainTable, Gathered, Narrowed, nameWords, Asked, Walked, Sized, answersTable, Stepped, Covered, placesIn, idAt};
 ghost use Rattle.search.specs.Answers.{over, roomOf, givenBy, idColumn, sharedColumn, sizeColumn, questionOf, searchGoodOf, searchOf};
 
 // What a search answers. specs/Answers.antt sets out the number and the values of each case.
@@ -103,17 +103,17 @@ fn sift(
 
 // ---- the names
 
-// How many names have each size.
+// Which sizes the names have: 1 at each of them.
 fn sizes_present(words: &[u32]) -> [u32; 67]
     requires { ⌜ Good (now words) ⌝ }
-    ensures { λ r. ⌜ r ≡ tabulate (namesOf (now (words .entry))) sizesEnd ⌝ }
+    ensures { λ r. ⌜ r ≡ tabulate (presentAt (now (words .entry))) sizesEnd ⌝ }
 {
     let n = index::name_count(words);
     let mut table = [0u32; 67];
     let mut i = 0;
     while i < n {
         let size = index::name_size(words, i) as usize;
-        table[size] = table[size] + 1;
+        table[size] = 1;
         i += 1;
     }
     table
@@ -355,7 +355,7 @@ fn one_size(
 
 // ---- all sizes
 
-// Size y, of which `present` names are there; nothing is done where there are none or the size isn't searched.
+// Size y, where `present` is 1 if a name has it; nothing is done where none has or the size isn't searched.
 fn size_step(
     words: &[u32],
     names: &[u32],
@@ -368,7 +368,7 @@ fn size_step(
     budget: usize,
     answers: &mut [u32],
 ) -> Spent
-    requires { ⌜ Good (now words) × (now names ≡ nameWords (now words)) × Asked (now features) × (goodMeasure measure ≡ true) × (y < sizesEnd) × (present ≡ namesOf (now words) y) × (now answers ≡ answersTable (now words) measure p q (now features) y) ⌝ }
+    requires { ⌜ Good (now words) × (now names ≡ nameWords (now words)) × Asked (now features) × (goodMeasure measure ≡ true) × (y < sizesEnd) × (present ≡ presentAt (now words) y) × (now answers ≡ answersTable (now words) measure p q (now features) y) ⌝ }
     ensures { λ r. ⌜ Stepped (now (words .entry)) measure p q (now (features .entry)) y budget (now (answers .exit)) (r .past) (r .touches) ⌝ }
 {
     if present == 0 {

@@ -10,15 +10,15 @@ use Rattle.laws.specs.Below.{sumBelow}
 use Rattle.laws.specs.Lists.{tabulate}
 use Rattle.laws.proofs.Lists.{length-tabulate, getD-tabulate}
 use Rattle.laws.proofs.Below.{sum-below-step, sum-below-up}
-use Rattle.search.specs.Method.{namesOf, sizesEnd, touchesOfSize, touchesOf}
-use Rattle.search.specs.Tables.{answersTable, Stepped, Covered}
+use Rattle.search.specs.Method.{sizesEnd, touchesOfSize, touchesOf}
+use Rattle.search.specs.Tables.{presentAt, answersTable, Stepped, Covered}
 use Rattle.search.proofs.Answering.{length-answers}
 use Rattle.search.proofs.all_sizes.Statement.{statement}
 use Rattle.search.proofs.all_sizes.Tie as tie
 
 abbrev Inv-loop : tie.InvT-loop
 Inv-loop words names features measure p q allowance answers₀ present touches₀ y₀ answers touches y =
-    (y ≤ 67) × (present ≡ tabulate (namesOf words) 67) × (touches ≡ sumBelow y (touchesOfSize words measure p q features)) × (touches ≤ allowance)
+    (y ≤ 67) × (present ≡ tabulate (presentAt words) 67) × (touches ≡ sumBelow y (touchesOfSize words measure p q features)) × (touches ≤ allowance)
     × (answers ≡ answersTable words measure p q features y)
 
 abbrev μ-loop : tie.MeasureT-loop
@@ -46,7 +46,7 @@ size-step-requires c κs =
     let b = c .before .before .before .before .before .before .before .before in
     let l = c .before .before .loop in
     let t = c .before .loop-test .taken in
-    (b .pre .0, b .pre .1, b .pre .2, b .pre .3, t, ap (λ (r : List ℕ). getD r (l .y) 0) (l .inv .1) ∙ getD-tabulate (namesOf (b .args .words .now)) 67 (l .y) 0 t, l .inv .4)
+    (b .pre .0, b .pre .1, b .pre .2, b .pre .3, t, ap (λ (r : List ℕ). getD r (l .y) 0) (l .inv .1) ∙ getD-tabulate (presentAt (b .args .words .now)) 67 (l .y) 0 t, l .inv .4)
 
 same-length : tie.Need-same-length Inv-loop μ-loop
 same-length c =

@@ -14,8 +14,9 @@ use Rattle.likeness.specs.Least.{leastCount}
 use Rattle.likeness.proofs.Least.{least-pos, least-within}
 use Rattle.likeness.proofs.Sizes.{searched-good}
 use Rattle.index.specs.Good.{mostNames}
-use Rattle.search.specs.Method.{namesOf, listsFor, laterCount, touchesAt, touchesOfSize}
-use Rattle.search.specs.Tables.{nameWords, remainTable, kept, Sized, Stepped, answersTable}
+use Rattle.search.specs.Method.{listsFor, laterCount, touchesAt, touchesOfSize}
+use Rattle.search.specs.Tables.{presentAt, nameWords, remainTable, kept, Sized, Stepped, answersTable}
+use Rattle.search.proofs.Places.{present-none, present-of-none}
 use Rattle.search.proofs.Work.{nobody-zero}
 use Rattle.search.proofs.Answering.{answers-skipped, unsearched, nobody, answers-searched, length-answers, touches-searched, touches-unsearched, touches-nobody}
 use Rattle.search.proofs.size_step.Statement.{statement}
@@ -24,11 +25,11 @@ use Rattle.search.proofs.size_step.Tie as tie
 returns : tie.Need-returns
 returns c =
     let b = c .before .before .before .before .before in
-    let z = touches-nobody (b .args .words .now) (b .pre .0) (b .args .measure) (b .args .p) (b .args .q) (b .args .features .now) (b .pre .2) (b .args .y) (sym (b .pre .5) ∙ c .if1 .taken) in
+    let z = touches-nobody (b .args .words .now) (b .pre .0) (b .args .measure) (b .args .p) (b .args .q) (b .args .features .now) (b .pre .2) (b .args .y) (present-none (b .args .words .now) (b .args .y) (sym (b .pre .5) ∙ c .if1 .taken)) in
     record {
       over = sym (le-ltb (b .args .budget) (touchesOfSize (b .args .words .now) (b .args .measure) (b .args .p) (b .args .q) (b .args .features .now) (b .args .y)) (omega arith));
       cost = λ e. sym z;
-      answers = λ e. b .pre .6 ∙ answers-skipped (b .args .words .now) (b .pre .0) (b .args .measure) (b .args .p) (b .args .q) (b .args .features .now) (b .pre .2) (b .args .y) (λ i h e. absurd (nobody (b .args .words .now) (b .pre .0) (b .args .measure) (b .args .p) (b .args .q) (b .args .features .now) (b .pre .2) (b .args .y) (sym (b .pre .5) ∙ c .if1 .taken) i h e));
+      answers = λ e. b .pre .6 ∙ answers-skipped (b .args .words .now) (b .pre .0) (b .args .measure) (b .args .p) (b .args .q) (b .args .features .now) (b .pre .2) (b .args .y) (λ i h e. absurd (nobody (b .args .words .now) (b .pre .0) (b .args .measure) (b .args .p) (b .args .q) (b .args .features .now) (b .pre .2) (b .args .y) (present-none (b .args .words .now) (b .args .y) (sym (b .pre .5) ∙ c .if1 .taken)) i h e));
     }
 
 cast-x : tie.Need-cast-x
@@ -66,7 +67,7 @@ one-size-requires c κs =
     let some = b .pre .2 .some in
     let pos : 0 < b .args .y =
     ⊎-elim
-    (λ (e : b .args .y ≡ 0). absurd (c .before .before .before .before .if1 .left (b .pre .5 ∙ ap (namesOf (b .args .words .now)) e ∙ nobody-zero (b .args .words .now) (b .pre .0))))
+    (λ (e : b .args .y ≡ 0). absurd (c .before .before .before .before .if1 .left (b .pre .5 ∙ ap (presentAt (b .args .words .now)) e ∙ present-of-none (b .args .words .now) 0 (nobody-zero (b .args .words .now) (b .pre .0)))))
     (λ (e : b .args .y ≡ 0 → ⊥). omega arith)
     (eq-or-ne (b .args .y) 0)
     in
@@ -85,7 +86,7 @@ returns-3 c =
     let some = b .pre .2 .some in
     let pos : 0 < b .args .y =
     ⊎-elim
-    (λ (e : b .args .y ≡ 0). absurd (c .before .before .before .before .before .before .before .if1 .left (b .pre .5 ∙ ap (namesOf (b .args .words .now)) e ∙ nobody-zero (b .args .words .now) (b .pre .0))))
+    (λ (e : b .args .y ≡ 0). absurd (c .before .before .before .before .before .before .before .if1 .left (b .pre .5 ∙ ap (presentAt (b .args .words .now)) e ∙ present-of-none (b .args .words .now) 0 (nobody-zero (b .args .words .now) (b .pre .0)))))
     (λ (e : b .args .y ≡ 0 → ⊥). omega arith)
     (eq-or-ne (b .args .y) 0)
     in

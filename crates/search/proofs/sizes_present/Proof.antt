@@ -1,21 +1,21 @@
--- `sizes_present` meets its contract: after i turns, how many of the first i names have each size.
-use mathlib.Core.Path.{_≡_, refl, sym, ap, _∙_}
+-- `sizes_present` meets its contract: after i turns, which sizes the first i names have.
+use mathlib.Core.Path.{_≡_, refl, sym, ap, ap₂, _∙_}
 use mathlib.Core.List.{List}
 use Prim.Native.Nat.{ℕ, _+_, _≤_, _<_, _-_}
 use native.Mathlib.Omega.{arith}
 use lib.ListN.{length, getD, set}
 use Rattle.laws.specs.Lists.{tabulate}
-use Rattle.laws.proofs.Lists.{length-tabulate, getD-tabulate}
-use Rattle.laws.proofs.Below.{count-below-most}
+use Rattle.laws.proofs.Lists.{length-tabulate, tabulate-ext}
 use Rattle.index.specs.Words.{nameCount, nameSize}
 use Rattle.index.proofs.Laws.{good-three, good-within, good-names-most, good-name-within}
-use Rattle.search.proofs.Places.{sizesOf, sizes-nil, sizes-step}
+use Rattle.search.specs.Tables.{presentAt}
+use Rattle.search.proofs.Places.{presentBy, present-nil, present-step, present-all}
 use Rattle.search.proofs.sizes_present.Statement.{statement}
 use Rattle.search.proofs.sizes_present.Tie as tie
 
 abbrev Inv-loop : tie.InvT-loop
 Inv-loop words n table₀ i₀ table i =
-    (n ≡ nameCount words) × (i ≤ n) × (table ≡ tabulate (sizesOf words i) 67)
+    (n ≡ nameCount words) × (i ≤ n) × (table ≡ tabulate (presentBy words i) 67)
 
 abbrev μ-loop : tie.MeasureT-loop
 μ-loop words n table₀ i₀ table i = n - i
@@ -30,24 +30,13 @@ within c =
     omega arith
 
 wide : (c : tie.At-loop Inv-loop μ-loop) → length (c .loop .table) ≡ 67
-wide c = ap length (c .loop .inv .2) ∙ length-tabulate (sizesOf (c .before .before .before .args .words .now) (c .loop .i)) 67
-
-small : (c : tie.After-name-size Inv-loop μ-loop) → getD (c .before .before .loop .table) (c .name-size .result) 0 ≤ 256
-small c =
-    let b = c .before .before .before .before .before in
-    let l = c .before .before .loop in
-    let t = ap (λ (r : List ℕ). getD r (c .name-size .result) 0) (l .inv .2) ∙ getD-tabulate (sizesOf (b .args .words .now) (l .i)) 67 (c .name-size .result) 0 (within c) in
-    let m = count-below-most (l .i) (λ (j : ℕ). lib.Dec.eqb (nameSize (b .args .words .now) j) (c .name-size .result)) in
-    let n = good-names-most (b .args .words .now) (b .pre) in
-    let e = l .inv .0 in
-    let k = l .inv .1 in
-    omega arith
+wide c = ap length (c .loop .inv .2) ∙ length-tabulate (presentBy (c .before .before .before .args .words .now) (c .loop .i)) 67
 
 name-count-requires : tie.Need-name-count-requires Inv-loop μ-loop
 name-count-requires c κs = good-three _ (c .before .pre)
 
 loop-holds : tie.Need-loop-holds Inv-loop μ-loop
-loop-holds c = (c .name-count .ensures .0, omega arith, sizes-nil _ 67)
+loop-holds c = (c .name-count .ensures .0, omega arith, present-nil _ 67)
 
 name-size-requires : tie.Need-name-size-requires Inv-loop μ-loop
 name-size-requires c κs =
@@ -61,15 +50,6 @@ cast-size c = let w = within c in omega arith
 
 mul-table : tie.Need-mul-table Inv-loop μ-loop
 mul-table c = let w = within c in omega arith
-
-array-read-table : tie.Need-array-read-table Inv-loop μ-loop
-array-read-table c = let w = within c in let l = wide (c .before .before) in omega arith
-
-add-table : tie.Need-add-table Inv-loop μ-loop
-add-table c = let s = small c in omega arith
-
-mul-table-2 : tie.Need-mul-table-2 Inv-loop μ-loop
-mul-table-2 c = let w = within c in omega arith
 
 array-write-table : tie.Need-array-write-table Inv-loop μ-loop
 array-write-table c = let w = within c in let l = wide (c .before .before) in omega arith
@@ -88,16 +68,14 @@ loop-again c =
     let e : s ≡ nameSize (b .args .words .now) (l .i) = c .name-size .ensures in (
       l .inv .0,
       omega arith,
-      ap (λ (t : List ℕ). set t s (getD t s 0 + 1)) (l .inv .2)
-          ∙ ap (λ (x : ℕ). set (tabulate (sizesOf (b .args .words .now) (l .i)) 67) x (getD (tabulate (sizesOf (b .args .words .now) (l .i)) 67) x 0 + 1)) e
-          ∙ sizes-step (b .args .words .now) (l .i) 67 (let w = within c in omega arith),
+      ap₂ (λ (t : List ℕ) (x : ℕ). set t x 1) (l .inv .2) e ∙ present-step (b .args .words .now) (l .i) 67 (let w = within c in omega arith),
     )
 
 returns : tie.Need-returns Inv-loop μ-loop
 returns c =
     let l = c .before .loop in
     let e : l .i ≡ nameCount (c .before .before .before .before .args .words .now) = (let q = l .inv .0 in let r = l .inv .1 in omega arith) in
-    l .inv .2 ∙ ap (λ (k : ℕ). tabulate (sizesOf (c .before .before .before .before .args .words .now) k) 67) e
+    l .inv .2 ∙ tabulate-ext (presentBy (c .before .before .before .before .args .words .now) (l .i)) (presentAt (c .before .before .before .before .args .words .now)) 67 (λ y h. present-all (c .before .before .before .before .args .words .now) (l .i) e y)
 
 pub sizes-present-spec : {M : Type 1} → statement M
 sizes-present-spec =
@@ -110,9 +88,6 @@ sizes-present-spec =
     name-size-requires
     cast-size
     mul-table
-    array-read-table
-    add-table
-    mul-table-2
     array-write-table
     add-i
     loop-less
