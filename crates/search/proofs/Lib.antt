@@ -7,6 +7,7 @@ pub mod Places
 pub mod Order
 pub mod Counts
 pub mod Size
+pub mod Idle
 pub mod Answering
 pub mod Rows
 pub mod Whole

@@ -75,6 +75,10 @@ startOf w y features j = spanIn w y (getD features j 0) .start
 unfoldable pub smallKey : List ℕ → ℕ → List ℕ → ℕ → ℕ
 smallKey w y features j = length (listIn w y (getD features j 0)) * 256 + j
 
+-- how many of the first n features' lists have ids: their keys are above 255
+unfoldable pub filledOf : List ℕ → ℕ → List ℕ → ℕ → ℕ
+filledOf w y features n = countBelow n (λ (j : ℕ). ltb 255 (smallKey w y features j))
+
 -- the k-th list in the keys' order, as the code cuts it out of the words: the key's length, from where its feature's list starts
 unfoldable pub cutAt : List ℕ → List ℕ → List ℕ → ℕ → List ℕ
 cutAt w keys starts k = take (getD keys k 0 / 256) (drop (getD starts (getD keys k 0 % 256) 0) w)

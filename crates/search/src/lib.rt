@@ -13,7 +13,7 @@ ghost use Rattle.names.specs.Names.{judgeOf};
 ghost use Rattle.names.specs.Features.{mostFeatures, featuresOf};
 ghost use Rattle.index.specs.Good.{Good, mostNames};
 ghost use Rattle.search.specs.Method.{sizesEnd, answersOf};
-ghost use Rattle.search.specs.Tables.{Names, Named, presentAt, MetBy, tallied, tested, kept, startOf, smallKey, cutAt, cutLists, Readable, remainTable, Gathered, Narrowed, nameWords, Asked, Walked, Sized, answersTable, Stepped, Covered, placesIn, idAt};
+ghost use Rattle.search.specs.Tables.{Names, Named, presentAt, MetBy, tallied, tested, kept, startOf, smallKey, filledOf, cutAt, cutLists, Readable, remainTable, Gathered, Narrowed, nameWords, Asked, Walked, Sized, answersTable, Stepped, Covered, placesIn, idAt};
 ghost use Rattle.search.specs.Answers.{over, roomOf, givenBy, idColumn, sharedColumn, sizeColumn, questionOf, searchGoodOf, searchOf};
 
 // What a search answers. specs/Answers.antt sets out the number and the values of each case.
@@ -134,19 +134,38 @@ fn keep(counts: &[u32], met: &[usize], m: usize, answers: &mut [u32])
 
 // ---- the lists of a size
 
-// Where the features' lists at a size start, and the key of each: its length × 256 + its place among the features.
-fn find_lists(words: &[u32], features: &[u64], size: u32, starts: &mut [usize], keys: &mut [u64])
+// 1 where b holds, and 0 otherwise.
+fn one_if(b: bool) -> usize
+    ensures { λ r. ⌜ r ≡ cond b 1 0 ⌝ }
+{
+    b as usize
+}
+
+// Where the features' lists at a size start, and the key of each: its length × 256 + its place among the features. Answers how many
+// of the lists have ids.
+fn find_lists(
+    words: &[u32],
+    features: &[u64],
+    size: u32,
+    starts: &mut [usize],
+    keys: &mut [u64],
+) -> usize
     requires { ⌜ Good (now words) × (length (now features) ≤ mostFeatures) × (length (now starts) ≡ mostFeatures) × (length (now keys) ≡ length (now features)) ⌝ }
     ensures { λ r. ⌜ (now (starts .exit) ≡ tabulate (startOf (now (words .entry)) size (now (features .entry))) (length (now (features .entry))) ++ drop (length (now (features .entry))) (now (starts .entry))) × (now (keys .exit) ≡ tabulate (smallKey (now (words .entry)) size (now (features .entry))) (length (now (features .entry))) ++ drop (length (now (features .entry))) (now (keys .entry))) ⌝ }
+    ensures { λ r. ⌜ r ≡ filledOf (now (words .entry)) size (now (features .entry)) (length (now (features .entry))) ⌝ }
 {
     let rows = index::rows_of_size(words, size);
+    let mut filled = 0;
     let mut j = 0;
     while j < features.len() {
         let place = index::place_among(words, rows.from, rows.to, size, features[j]);
+        let key = place.count as u64 * 256 + j as u64;
         starts[j] = place.start;
-        keys[j] = place.count as u64 * 256 + j as u64;
+        keys[j] = key;
+        filled += one_if(255 < key);
         j += 1;
     }
+    filled
 }
 
 // The k-th list in the keys' order, as that part of the words.
@@ -264,15 +283,28 @@ struct Spent {
     touches: usize,
 }
 
-// Where the features' lists at a size start, and their keys in order.
-fn order_lists(words: &[u32], features: &[u64], size: u32, starts: &mut [usize], keys: &mut [u64])
+// Where the features' lists at a size start, and their keys in order. Answers whether as many as `least` have ids; where not, no name
+// of the size is an answer or costs a touch, and nothing is put in order.
+fn order_lists(
+    words: &[u32],
+    features: &[u64],
+    size: u32,
+    least: usize,
+    starts: &mut [usize],
+    keys: &mut [u64],
+) -> bool
     requires { ⌜ Good (now words) × (length (now features) ≤ mostFeatures) × (length (now starts) ≡ mostFeatures) × (length (now keys) ≡ length (now features)) ⌝ }
-    ensures { λ r. ⌜ (now (keys .exit) ≡ sortOf (tabulate (smallKey (now (words .entry)) size (now (features .entry))) (length (now (features .entry))))) × ((j : ℕ) → j < length (now (features .entry)) → getD (now (starts .exit)) j 0 ≡ startOf (now (words .entry)) size (now (features .entry)) j) ⌝ }
+    ensures { λ r. ⌜ r ≡ leb least (filledOf (now (words .entry)) size (now (features .entry)) (length (now (features .entry)))) ⌝ }
+    ensures { λ r. ⌜ (r ≡ true → (now (keys .exit) ≡ sortOf (tabulate (smallKey (now (words .entry)) size (now (features .entry))) (length (now (features .entry))))) × ((j : ℕ) → j < length (now (features .entry)) → getD (now (starts .exit)) j 0 ≡ startOf (now (words .entry)) size (now (features .entry)) j)) ⌝ }
 {
     let x = features.len();
+    let filled = find_lists(words, features, size, starts, keys);
+    if filled < least {
+        return false;
+    }
     let mut spare = [0u64; 66];
-    find_lists(words, features, size, starts, keys);
     sorting::sort(keys, &mut spare[..x]);
+    true
 }
 
 // The two phases over lists in order, and what is left kept among the answers.
@@ -349,7 +381,12 @@ fn one_size(
     let x = features.len();
     let mut starts = [0usize; 66];
     let mut keys = [0u64; 66];
-    order_lists(words, features, size, &mut starts, &mut keys[..x]);
+    if !order_lists(words, features, size, least, &mut starts, &mut keys[..x]) {
+        return Spent {
+            past: false,
+            touches: 0,
+        };
+    }
     walk_lists(words, names, &keys[..x], &starts, least, budget, answers)
 }
 

@@ -1,18 +1,21 @@
--- `one_size` meets its contract: the lists in order are the method's, and so are the touches of the two phases.
+-- `one_size` meets its contract: where too few lists have ids nothing is due; otherwise the lists in order are the method's, and so are the
+-- touches of the two phases.
 use mathlib.Core.Path.{_≡_, refl, sym, ap, ap₂, subst, _∙_}
 use mathlib.Core.Bool.{false}
 use mathlib.Core.List.{List, _++_}
 use Prim.Native.Nat.{ℕ, _+_, _≤_, _<_}
 use native.Mathlib.Omega.{arith}
 use borrow.Author.Needs.{needs}
+use borrow.Author.Tests.{le-ltb, leb-false, not-true, not-false}
 use lib.Dec.{ltb}
 use lib.ListN.{length, getD, take, drop, replicate, length-append}
 use lib.Seq.{length-take-le, take-at}
 use Rattle.laws.specs.Lists.{Ascending}
 use Rattle.index.specs.Good.{mostNames}
 use Rattle.search.specs.Method.{listsFor, signatures, laterCount, touchesAt}
-use Rattle.search.specs.Tables.{Names, Readable, cutLists, nameWords, postingsOf, laterTouches, remainTable, kept, Asked, Walked, Sized}
+use Rattle.search.specs.Tables.{Names, Readable, filledOf, cutLists, nameWords, postingsOf, laterTouches, remainTable, kept, Asked, Walked, Sized}
 use Rattle.search.proofs.Size.{names-fine, names-rise, length-keys, cut-lists, cut-readable, touches-at}
+use Rattle.search.proofs.Idle.{idle-touches, idle-answers}
 use Rattle.search.proofs.one_size.Statement.{statement}
 use Rattle.search.proofs.one_size.Tie as tie
 
@@ -28,24 +31,39 @@ slice-aggregate-order-lists-2 c = sym (length-take-le {A = ℕ} (length (c .befo
 order-lists-requires : tie.Need-order-lists-requires
 order-lists-requires c κs = (c .before .before .before .before .before .before .pre .0, c .before .before .before .before .before .before .pre .2 .few, refl, (length-take-le {A = ℕ} (length (c .before .before .before .before .before .before .args .features .now)) (replicate 66 0) (c .before .before .before .before .before .before .pre .2 .few)))
 
+returns : tie.Need-returns
+returns c =
+    let b = c .before .before .before .before .before .before .before .before .before .before in
+    let o = c .before .before .before .order-lists in
+    let w = b .args .words .now in
+    let y = b .args .size in
+    let f = b .args .features .now in
+    let few = leb-false (b .args .least) (filledOf w y f (length f)) (sym (o .ensures .0) ∙ not-true _ (c .if1 .taken)) in
+    let z = idle-touches w y f (b .pre .2) (b .args .least) (b .pre .3) (b .pre .4) few in
+    record {
+      over = sym (le-ltb (b .args .budget) (touchesAt w y (listsFor w y f) (b .args .least)) (omega arith));
+      cost = λ e. sym z;
+      answers = λ e. idle-answers w y f (b .pre .2) (b .args .least) (b .pre .3) (b .pre .4) few (b .args .answers .now) (b .pre .5);
+    }
+
 array-share-prefix-keys : tie.Need-array-share-prefix-keys
 array-share-prefix-keys c =
-    let b = c .before .before .before .before .before .before .before .before .before in
+    let b = c .before .before .before .before .before .before .before .before .before .before in
     let f = b .args .features .now in
-    let o = c .before .before .order-lists in
-    let keys = o .last .1 .1 .1 .1 .0 in
-    let n : length keys ≡ length f = o .kept .1 .1 .1 .1 .0 ∙ (length-take-le {A = ℕ} (length (c .before .before .before .before .before .before .before .before .before .args .features .now)) (replicate 66 0) (c .before .before .before .before .before .before .before .before .before .pre .2 .few)) in
+    let o = c .before .before .before .order-lists in
+    let keys = o .last .1 .1 .1 .1 .1 .0 in
+    let n : length keys ≡ length f = o .kept .1 .1 .1 .1 .1 .0 ∙ (length-take-le {A = ℕ} (length f) (replicate 66 0) (b .pre .2 .few)) in
     let front : take (length f) (keys ++ drop (length f) (replicate 66 0)) ≡ keys = take-at keys (drop (length f) (replicate 66 0)) (length f) n in
     let m = length-append keys (drop (length f) (replicate 66 0)) in
     omega arith
 
 slice-aggregate-walk-lists : tie.Need-slice-aggregate-walk-lists
 slice-aggregate-walk-lists c =
-    let b = c .before .before .before .before .before .before .before .before .before .before in
+    let b = c .before .before .before .before .before .before .before .before .before .before .before in
     let f = b .args .features .now in
-    let o = c .before .before .before .order-lists in
-    let keys = o .last .1 .1 .1 .1 .0 in
-    let n : length keys ≡ length f = o .kept .1 .1 .1 .1 .0 ∙ (length-take-le {A = ℕ} (length (c .before .before .before .before .before .before .before .before .before .before .args .features .now)) (replicate 66 0) (c .before .before .before .before .before .before .before .before .before .before .pre .2 .few)) in
+    let o = c .before .before .before .before .order-lists in
+    let keys = o .last .1 .1 .1 .1 .1 .0 in
+    let n : length keys ≡ length f = o .kept .1 .1 .1 .1 .1 .0 ∙ (length-take-le {A = ℕ} (length f) (replicate 66 0) (b .pre .2 .few)) in
     let front : take (length f) (keys ++ drop (length f) (replicate 66 0)) ≡ keys = take-at keys (drop (length f) (replicate 66 0)) (length f) n in
     sym (ap length front ∙ n)
 
@@ -54,21 +72,22 @@ slice-aggregate-walk-lists-2 c = search needs
 
 walk-lists-requires : tie.Need-walk-lists-requires
 walk-lists-requires c κs =
-    let b = c .before .before .before .before .before .before .before .before .before .before .before .before in
+    let b = c .before .before .before .before .before .before .before .before .before .before .before .before .before in
     let f = b .args .features .now in
-    let o = c .before .before .before .before .before .order-lists in
-    let keys = o .last .1 .1 .1 .1 .0 in
-    let n : length keys ≡ length f = o .kept .1 .1 .1 .1 .0 ∙ (length-take-le {A = ℕ} (length (c .before .before .before .before .before .before .before .before .before .before .before .before .args .features .now)) (replicate 66 0) (c .before .before .before .before .before .before .before .before .before .before .before .before .pre .2 .few)) in
+    let o = c .before .before .before .before .before .before .order-lists in
+    let keys = o .last .1 .1 .1 .1 .1 .0 in
+    let n : length keys ≡ length f = o .kept .1 .1 .1 .1 .1 .0 ∙ (length-take-le {A = ℕ} (length f) (replicate 66 0) (b .pre .2 .few)) in
     let front : take (length f) (keys ++ drop (length f) (replicate 66 0)) ≡ keys = take-at keys (drop (length f) (replicate 66 0)) (length f) n in
-    let starts = o .last .1 .1 .1 .0 in
-    let room : length f ≤ length starts = (let q = o .kept .1 .1 .1 .0 in let p = b .pre .2 .few in omega arith) in
+    let u = o .ensures .1 (not-false _ (c .before .before .before .if1 .left)) in
+    let starts = o .last .1 .1 .1 .1 .0 in
+    let room : length f ≤ length starts = (let q = o .kept .1 .1 .1 .1 .0 in let p = b .pre .2 .few in omega arith) in
     let w = b .args .words .now in
     let y = b .args .size in
     let e : b .args .names .now ≡ nameWords w = b .pre .1 in
-    let l = length-keys w (b .pre .0) y f (b .pre .2) keys starts (o .ensures .0) (o .ensures .1) room in (
+    let l = length-keys w (b .pre .0) y f (b .pre .2) keys starts (u .0) (u .1) room in (
       subst Names (sym e) (names-fine w (b .pre .0)),
       subst Ascending (sym e) (names-rise w (b .pre .0)),
-      rw (front, e) (cut-readable w (b .pre .0) y f (b .pre .2) keys starts (o .ensures .0) (o .ensures .1) room),
+      rw (front, e) (cut-readable w (b .pre .0) y f (b .pre .2) keys starts (u .0) (u .1) room),
       rw front (let q = b .pre .2 .few in omega arith),
       b .pre .3,
       rw front (let q = b .pre .4 in omega arith),
@@ -78,20 +97,21 @@ walk-lists-requires c κs =
 same-length : tie.Need-same-length
 same-length c = search needs
 
-returns : tie.Need-returns
-returns c =
-    let b = c .before .before .before .before .before .before .before .before .before .before .before .before .before .before .before in
+returns-2 : tie.Need-returns-2
+returns-2 c =
+    let b = c .before .before .before .before .before .before .before .before .before .before .before .before .before .before .before .before in
     let f = b .args .features .now in
-    let o = c .before .before .before .before .before .before .before .before .order-lists in
-    let keys = o .last .1 .1 .1 .1 .0 in
-    let n : length keys ≡ length f = o .kept .1 .1 .1 .1 .0 ∙ (length-take-le {A = ℕ} (length (c .before .before .before .before .before .before .before .before .before .before .before .before .before .before .before .args .features .now)) (replicate 66 0) (c .before .before .before .before .before .before .before .before .before .before .before .before .before .before .before .pre .2 .few)) in
+    let o = c .before .before .before .before .before .before .before .before .before .order-lists in
+    let keys = o .last .1 .1 .1 .1 .1 .0 in
+    let n : length keys ≡ length f = o .kept .1 .1 .1 .1 .1 .0 ∙ (length-take-le {A = ℕ} (length f) (replicate 66 0) (b .pre .2 .few)) in
     let front : take (length f) (keys ++ drop (length f) (replicate 66 0)) ≡ keys = take-at keys (drop (length f) (replicate 66 0)) (length f) n in
-    let starts = o .last .1 .1 .1 .0 in
-    let room : length f ≤ length starts = (let q = o .kept .1 .1 .1 .0 in let p = b .pre .2 .few in omega arith) in
+    let u = o .ensures .1 (not-false _ (c .before .before .before .before .before .before .if1 .left)) in
+    let starts = o .last .1 .1 .1 .1 .0 in
+    let room : length f ≤ length starts = (let q = o .kept .1 .1 .1 .1 .0 in let p = b .pre .2 .few in omega arith) in
     let w = b .args .words .now in
     let y = b .args .size in
     let e : b .args .names .now ≡ nameWords w = b .pre .1 in
-    let ls : cutLists w (take (length f) (keys ++ drop (length f) (replicate 66 0))) starts ≡ listsFor w y f = ap (λ (r : List ℕ). cutLists w r starts) front ∙ cut-lists w (b .pre .0) y f (b .pre .2) keys starts (o .ensures .0) (o .ensures .1) room in
+    let ls : cutLists w (take (length f) (keys ++ drop (length f) (replicate 66 0))) starts ≡ listsFor w y f = ap (λ (r : List ℕ). cutLists w r starts) front ∙ cut-lists w (b .pre .0) y f (b .pre .2) keys starts (u .0) (u .1) room in
     let v = c .before .before .walk-lists .ensures in
     let t = touches-at w (b .pre .0) y f (b .pre .2) (b .args .least) in
     let h : postingsOf (cutLists w (take (length f) (keys ++ drop (length f) (replicate 66 0))) starts) (signatures (length (cutLists w (take (length f) (keys ++ drop (length f) (replicate 66 0))) starts)) (b .args .least)) + laterTouches (b .args .names .now) (cutLists w (take (length f) (keys ++ drop (length f) (replicate 66 0))) starts) (b .args .least) (laterCount (cutLists w (take (length f) (keys ++ drop (length f) (replicate 66 0))) starts) (b .args .least)) ≡ touchesAt w y (listsFor w y f) (b .args .least) =
@@ -111,9 +131,10 @@ one-size-spec =
     array-borrow-prefix-keys
     slice-aggregate-order-lists-2
     order-lists-requires
+    returns
     array-share-prefix-keys
     slice-aggregate-walk-lists
     slice-aggregate-walk-lists-2
     walk-lists-requires
     same-length
-    returns)
+    returns-2)
