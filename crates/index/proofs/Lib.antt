@@ -1,5 +1,3 @@
-mod Digits
-mod Search
 pub mod Facts
 pub mod Laws
 mod Rows

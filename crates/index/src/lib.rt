@@ -1,11 +1,10 @@
 // The index words: what a good index is, the list of a size and a feature, membership. The rule: docs/RULE.md, "Index words";
 // the definitions: specs/.
 ghost use mathlib.Core.Path.{_≡_};
-ghost use mathlib.Core.Bool.{true, cond};
+ghost use mathlib.Core.Bool.{true};
 ghost use Prim.Native.Nat.{ℕ, _+_, _-_, _*_, _^_, _≤_, _<_};
 ghost use lib.ListN.{length, getD};
 ghost use lib.Dec.{ltb, eqb};
-ghost use Rattle.laws.specs.Lists.{member, Ascending, countOf};
 ghost use Rattle.laws.specs.Below.{allBelow, countBelow};
 ghost use Rattle.index.specs.Words.{nameCount, rowCount, postingCount, namesStart, nameId, nameSize, rowWidth, rowStart, rowSize, rowFeature, rowPlace, rowLength, postingsStart, posting};
 ghost use Rattle.index.specs.Good.{headGood, nameGood, namesGood, rowsGood, listGood, listsGood, goodOf, Good};
@@ -126,66 +125,6 @@ pub fn posting(words: &[u32], k: usize) -> u32
     words[row_start(words, row_count(words)) + k]
 }
 
-// ---- halving searches
-
-// 2 to the power of k.
-fn power(k: u32) -> usize
-    requires { ⌜ k < 64 ⌝ }
-    ensures { λ r. ⌜ r ≡ 2 ^ k ⌝ }
-{
-    1 << k
-}
-
-// 2 to the power of k where b holds, and 0 otherwise: by a shift, so that a search has no jump to guess.
-fn power_if(b: bool, k: u32) -> usize
-    requires { ⌜ k < 64 ⌝ }
-    ensures { λ r. ⌜ r ≡ cond b (2 ^ k) 0 ⌝ }
-{
-    (b as usize) << k
-}
-
-// The place of the highest digit of a number above 0, counted from 0.
-fn highest(n: usize) -> u32
-    requires { ⌜ 0 < n ⌝ }
-    ensures { λ r. ⌜ (r < 64) × (2 ^ r ≤ n) × (n < 2 * 2 ^ r) ⌝ }
-{
-    63 - u64::leading_zeros(n as u64)
-}
-
-// How many ids of an ascending list are below x: the place of x where it is there, and the place at which it would have to be put in.
-pub fn place_in(list: &[u32], x: u32) -> usize
-    requires { ⌜ Ascending (now list) ⌝ }
-    ensures { λ r. ⌜ r ≡ countOf (λ (y : ℕ). ltb y x) (now (list .entry)) ⌝ }
-{
-    let n = list.len();
-    let mut k = highest(n + 1);
-    let rest = n + 1 - power(k);
-    let mut base: usize = 0;
-    if 0 < rest {
-        if list[rest - 1] < x {
-            base = rest;
-        }
-    }
-    while 0 < k {
-        k -= 1;
-        let at = base + power(k) - 1;
-        base += power_if(list[at] < x, k);
-    }
-    base
-}
-
-// Whether an ascending list holds the id.
-pub fn holds(list: &[u32], id: u32) -> bool
-    requires { ⌜ Ascending (now list) ⌝ }
-    ensures { λ r. ⌜ r ≡ member id (now (list .entry)) ⌝ }
-{
-    let at = place_in(list, id);
-    if at < list.len() {
-        return list[at] == id;
-    }
-    false
-}
-
 // ---- the check
 
 // The most names, the most postings, the largest id, the least and the largest size of a good index.
@@ -286,7 +225,7 @@ pub fn name_place(words: &[u32], id: u32) -> usize
         return names;
     }
     let end = 3 + names;
-    place_in(&words[3..end], id * 256)
+    halving::place_in(&words[3..end], id * 256)
 }
 
 // The place of the name of that id and that size; N where there is none.
@@ -402,8 +341,8 @@ pub fn rows_below(words: &[u32], from: usize, to: usize, key: u64) -> usize
     ensures { λ r. ⌜ r ≡ from + countBelow (to - from) (λ (i : ℕ). ltb (rowKey (now (words .entry)) (from + i)) key) ⌝ }
 {
     let n = to - from;
-    let mut k = highest(n + 1);
-    let rest = n + 1 - power(k);
+    let mut k = halving::highest(n + 1);
+    let rest = n + 1 - halving::power(k);
     let mut base: usize = 0;
     if 0 < rest {
         if row_key(words, from + (rest - 1)) < key {
@@ -412,8 +351,8 @@ pub fn rows_below(words: &[u32], from: usize, to: usize, key: u64) -> usize
     }
     while 0 < k {
         k -= 1;
-        let at = base + power(k) - 1;
-        base += power_if(row_key(words, from + at) < key, k);
+        let at = base + halving::power(k) - 1;
+        base += halving::power_if(row_key(words, from + at) < key, k);
     }
     from + base
 }

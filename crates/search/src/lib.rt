@@ -47,7 +47,7 @@ fn tally(
     let mut m = already;
     let mut k = 0;
     while k < list.len() {
-        let i = index::place_in(names, list[k] * 256);
+        let i = halving::place_in(names, list[k] * 256);
         let count = counts[i];
         if count == 0 {
             met[m] = i;
@@ -64,7 +64,7 @@ fn counted(list: &[u32], id: u32, count: u32) -> u32
     requires { ⌜ Ascending (now list) × (count ≤ 65535) ⌝ }
     ensures { λ r. ⌜ (r ≡ count + cond (member id (now (list .entry))) 1 0) × (r ≤ 65536) ⌝ }
 {
-    if index::holds(list, id) {
+    if halving::holds(list, id) {
         return count + 1;
     }
     count

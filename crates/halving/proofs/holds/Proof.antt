@@ -1,9 +1,9 @@
 -- `holds` meets its contract: an id that is there stands at its place.
 use mathlib.Core.Path.{sym}
-use Rattle.index.proofs.Search.{place-holds, place-past}
+use Rattle.halving.proofs.Search.{place-holds, place-past}
 use borrow.Author.Needs.{needs}
-use Rattle.index.proofs.holds.Statement.{statement}
-use Rattle.index.proofs.holds.Tie as tie
+use Rattle.halving.proofs.holds.Statement.{statement}
+use Rattle.halving.proofs.holds.Tie as tie
 
 place-in-requires : tie.Need-place-in-requires
 place-in-requires c κs = search needs

@@ -1,8 +1,8 @@
 -- `power_if` meets its contract: nothing is shifted out.
-use Rattle.index.proofs.Digits.{power-if-shift}
+use Rattle.halving.proofs.Digits.{power-if-shift}
 use borrow.Author.Needs.{needs}
-use Rattle.index.proofs.power_if.Statement.{statement}
-use Rattle.index.proofs.power_if.Tie as tie
+use Rattle.halving.proofs.power_if.Statement.{statement}
+use Rattle.halving.proofs.power_if.Tie as tie
 
 cast-result : tie.Need-cast-result
 cast-result c = search needs

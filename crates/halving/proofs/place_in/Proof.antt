@@ -8,9 +8,9 @@ use lib.Dec.{ltb}
 use borrow.Author.Tests.{lt-ltb, le-ltb}
 use lib.Pow.{pow-pos}
 use Rattle.laws.proofs.Halving.{Stretch, stretch-first, digit-within, stretch-digit, stretch-none, count-index}
-use Rattle.index.proofs.Search.{belowAt, below-falls}
-use Rattle.index.proofs.place_in.Statement.{statement}
-use Rattle.index.proofs.place_in.Tie as tie
+use Rattle.halving.proofs.Search.{belowAt, below-falls}
+use Rattle.halving.proofs.place_in.Statement.{statement}
+use Rattle.halving.proofs.place_in.Tie as tie
 
 abbrev Inv-loop : tie.InvT-loop
 Inv-loop list x n k₀ rest base₀ k base = (k < 64) × Stretch (belowAt list x) (length list) base (2 ^ k - 1)

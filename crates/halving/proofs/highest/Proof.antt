@@ -1,8 +1,8 @@
 -- `highest` meets its contract: the leading zeros, the digit itself and those below it make 64.
-use Rattle.index.proofs.Digits.{highest-digit}
+use Rattle.halving.proofs.Digits.{highest-digit}
 use native.Mathlib.Omega.{arith}
-use Rattle.index.proofs.highest.Statement.{statement}
-use Rattle.index.proofs.highest.Tie as tie
+use Rattle.halving.proofs.highest.Statement.{statement}
+use Rattle.halving.proofs.highest.Tie as tie
 
 sub-result : tie.Need-sub-result
 sub-result c = highest-digit (c .args .n) (c .pre) (c .fits .n .fits) .0

@@ -1,8 +1,8 @@
 -- `power` meets its contract: nothing is shifted out.
-use Rattle.index.proofs.Digits.{power-shift}
+use Rattle.halving.proofs.Digits.{power-shift}
 use borrow.Author.Needs.{needs}
-use Rattle.index.proofs.power.Statement.{statement}
-use Rattle.index.proofs.power.Tie as tie
+use Rattle.halving.proofs.power.Statement.{statement}
+use Rattle.halving.proofs.power.Tie as tie
 
 shl-result : tie.Need-shl-result
 shl-result c = search needs
