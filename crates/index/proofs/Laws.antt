@@ -21,7 +21,7 @@ use Rattle.laws.proofs.Tests.{same-test, test-fails}
 use Rattle.laws.proofs.Ascending.{rises, rises-apart, member-place, ascending-next}
 use Rattle.names.specs.Shared.{sharedOf}
 use Rattle.names.proofs.Shared.{shared-le-right}
-use Rattle.index.specs.Words.{nameCount, rowCount, postingCount, nameId, nameSize, rowSize, rowFeature, rowPlace, rowLength, posting, listAt, total}
+use Rattle.words.specs.Words.{nameCount, rowCount, postingCount, nameId, nameSize, rowSize, rowFeature, rowPlace, rowLength, posting, listAt, total}
 use Rattle.index.specs.Good.{mostNames, mostPostings, isName, listsWith, Good, headGood, namesGood, rowsGood, listsGood, goodOf}
 use Rattle.index.specs.Lists.{rowIs, rowFor, spanAt, spanIn, listIn, featuresAmong, featuresIn, namePlace}
 use Rattle.index.specs.Part.{none, cut}
@@ -101,7 +101,7 @@ unfolding spanIn spanAt listIn listAt
 span-words w y f = by-test (ltb (rowFor w y f) (rowCount w))
   where
     by-test : (b : Bool)
-        → cut (cond b (record { start = Rattle.index.specs.Words.listStart w (rowFor w y f); count = rowLength w (rowFor w y f) }) none) w
+        → cut (cond b (record { start = Rattle.words.specs.Words.listStart w (rowFor w y f); count = rowLength w (rowFor w y f) }) none) w
         ≡ cond b (listAt w (rowFor w y f)) []
     by-test true = refl
     by-test false = refl

@@ -14,9 +14,9 @@ use borrow.Author.Tests.{lt-ltb, le-ltb, ltb-true, ltb-false, eq-eqb}
 use Rattle.laws.specs.Below.{countBelow}
 use Rattle.laws.proofs.Halving.{Falling, Stretch, falling-count}
 use Rattle.laws.proofs.Order.{le-or-lt}
-use Rattle.index.specs.Words.{rowCount, rowSize, rowFeature, rowPlace, rowLength, rowWidth, rowStart, listStart, total, postingsStart}
+use Rattle.words.specs.Words.{rowCount, rowSize, rowFeature, rowPlace, rowLength, rowWidth, rowStart, listStart, total, postingsStart, keyOf, rowKey}
 use Rattle.index.specs.Good.{rowBefore, Good}
-use Rattle.index.specs.Lists.{keyOf, rowKey, rowFor, spanAt, spanIn}
+use Rattle.index.specs.Lists.{rowFor, spanAt, spanIn}
 use Rattle.index.specs.Part.{none}
 use Rattle.index.proofs.Facts.{Before, good-facts, list-within}
 use Rattle.index.proofs.Laws.{row-found, row-for}

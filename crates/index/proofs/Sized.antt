@@ -15,10 +15,10 @@ use Rattle.laws.specs.Below.{countBelow}
 use Rattle.laws.proofs.Below.{sum-below-ext, count-below-most, count-below-mono}
 use Rattle.laws.proofs.Halving.{Falling, Stretch, falling-count, count-below-place}
 use Rattle.laws.proofs.Order.{le-or-lt}
-use Rattle.index.specs.Words.{rowCount, rowSize, rowFeature, rowStart}
+use Rattle.words.specs.Words.{rowCount, rowSize, rowFeature, rowStart, keyOf, rowKey}
 use Rattle.index.specs.Good.{Good}
 use Rattle.index.specs.Part.{none}
-use Rattle.index.specs.Lists.{keyOf, rowKey, spanIn}
+use Rattle.index.specs.Lists.{spanIn}
 use Rattle.index.specs.Sizes.{rowsUnder}
 use Rattle.index.proofs.Facts.{Before, good-facts}
 use Rattle.index.proofs.Rows.{keyBelow, key-falls, span-other, span-after}

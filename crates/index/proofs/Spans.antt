@@ -9,7 +9,7 @@ use lib.ListN.{length, drop, length-drop}
 use lib.Seq.{length-take-le}
 use borrow.Author.Tests.{lt-ltb}
 use Rattle.laws.proofs.Order.{le-or-lt}
-use Rattle.index.specs.Words.{rowCount}
+use Rattle.words.specs.Words.{rowCount}
 use Rattle.index.specs.Good.{Good}
 use Rattle.index.specs.Part.{Span}
 use Rattle.index.specs.Lists.{rowFor, spanAt, spanIn, listIn}

@@ -7,7 +7,7 @@ use Prim.Native.Nat.{ℕ, _<_}
 use lib.ListN.{getD}
 use Rattle.laws.specs.Lists.{member}
 use Rattle.laws.specs.Below.{countBelow}
-use Rattle.index.specs.Words.{nameCount, nameId, listAt}
+use Rattle.words.specs.Words.{nameCount, nameId, listAt}
 use Rattle.index.specs.Good.{headGood, namesGood, rowsGood}
 
 -- head and names are good

@@ -1,4 +1,3 @@
-pub mod Words
 pub mod Good
 pub mod Lists
 pub mod Check

@@ -7,21 +7,9 @@ use lib.Dec.{ltb, eqb}
 use Rattle.laws.specs.Lists.{member}
 use Rattle.laws.specs.First.{firstFrom}
 use Rattle.laws.specs.Below.{countBelow}
-use Rattle.index.specs.Words.{nameCount, rowCount, nameId, nameSize, rowSize, rowFeature, rowLength, listStart, listAt}
+use Rattle.words.specs.Words.{nameCount, rowCount, nameId, nameSize, rowSize, rowFeature, rowLength, listStart, listAt}
 use Rattle.index.specs.Good.{goodOf}
 use Rattle.index.specs.Part.{Span, none}
-
--- features are below this
-abbrev pub featureSpan : ℕ
-featureSpan = 2 ^ 32
-
--- a size and a feature as one number
-abbrev pub keyOf : ℕ → ℕ → ℕ
-keyOf size feature = size * featureSpan + feature
-
--- a row's size and feature as one number, by which the rows ascend
-unfoldable pub rowKey : List ℕ → ℕ → ℕ
-rowKey w r = keyOf (rowSize w r) (rowFeature w r)
 
 -- whether row r is that of the size and the feature
 unfoldable pub rowIs : List ℕ → ℕ → ℕ → ℕ → Bool

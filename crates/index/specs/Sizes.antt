@@ -4,7 +4,7 @@ use mathlib.Core.List.{List}
 use Prim.Native.Nat.{ℕ}
 use lib.Dec.{ltb}
 use Rattle.laws.specs.Below.{countBelow}
-use Rattle.index.specs.Words.{rowCount, rowSize}
+use Rattle.words.specs.Words.{rowCount, rowSize}
 
 -- how many rows have a size below this one
 unfoldable pub rowsUnder : List ℕ → ℕ → ℕ

@@ -23,9 +23,9 @@ use Rattle.laws.proofs.Images.{sort-map, count-tabulate, tabulate-of}
 use Rattle.names.specs.Names.{judgeOf}
 use Rattle.names.specs.Features.{characters, mostFeatures, featuresOf}
 use Rattle.names.proofs.Laws.{size-within, distinct-features, feature-fits}
-use Rattle.index.specs.Words.{nameCount, rowCount, postingCount, nameWord, nameId, nameSize, rowSize, rowFeature, rowPlace, rowLength, rowWidth, namesStart, listAt, total}
+use Rattle.words.specs.Words.{nameCount, rowCount, postingCount, nameWord, nameId, nameSize, rowSize, rowFeature, rowPlace, rowLength, rowWidth, namesStart, listAt, total, featureSpan}
 use Rattle.index.specs.Good.{mostNames, mostPostings, largestId, rowBefore, listsWith, Good}
-use Rattle.index.specs.Lists.{listIn, featuresIn, featureSpan}
+use Rattle.index.specs.Lists.{listIn, featuresIn}
 use Rattle.postings.specs.Built.{Entry, noEntry, wordOf, idSpan, tripleOf, triplesOf, allTriples, Row, noRow, runsOf, listsOf, triplesFrom, RowFit, RowsFit, rowWords, wordsFrom, rowsOf, wordsOf, EntryFit, Fit}
 use Rattle.postings.specs.Contents.{namesIn, rowIn, rowsIn, entryIn, entriesIn, Narrow}
 use Rattle.postings.specs.Plain.{Named, Plain}

@@ -10,9 +10,9 @@ use native.Mathlib.Omega.{arith}
 use Rattle.laws.specs.Lists.{member, Ascending}
 use Rattle.laws.proofs.Sort.{ascending-nil, ascending-snoc}
 use Rattle.laws.proofs.Images.{ascending-tabulate, map-tabulate, each-tabulate}
-use Rattle.index.specs.Words.{rowCount, rowSize, rowFeature, listAt}
+use Rattle.words.specs.Words.{rowCount, rowSize, rowFeature, listAt, featureSpan, keyOf}
 use Rattle.index.specs.Good.{Good}
-use Rattle.index.specs.Lists.{rowFor, listIn, featuresAmong, featuresIn, featureSpan, keyOf}
+use Rattle.index.specs.Lists.{rowFor, listIn, featuresAmong, featuresIn}
 use Rattle.index.proofs.Facts.{Before, good-facts}
 use Rattle.index.proofs.Laws.{row-found, row-for, list-row, list-holder, row-named, among-at, among-of, holder-size}
 use Rattle.postings.specs.Built.{Row, RowFit, RowsFit}

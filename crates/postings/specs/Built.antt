@@ -13,7 +13,7 @@ use Rattle.laws.specs.Each.{Each}
 use Rattle.laws.specs.Sort.{sortOf}
 use Rattle.names.specs.Features.{mostFeatures}
 use Rattle.index.specs.Good.{mostNames, largestId, leastSize}
-use Rattle.index.specs.Lists.{featureSpan, keyOf}
+use Rattle.words.specs.Words.{featureSpan, keyOf}
 
 -- ---- a name with its features
 

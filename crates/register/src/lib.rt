@@ -8,7 +8,7 @@ ghost use lib.Seq.{paste, sets};
 ghost use Rattle.names.specs.Names.{judgeOf};
 ghost use Rattle.names.specs.Features.{featuresOf, mostFeatures};
 ghost use Rattle.index.specs.Good.{mostNames, mostPostings, largestId};
-ghost use Rattle.index.specs.Lists.{featureSpan};
+ghost use Rattle.words.specs.Words.{featureSpan};
 ghost use Rattle.postings.specs.Built.{idSpan, tripleOf, runsOf, rowWords, wordsFrom};
 ghost use Rattle.register.specs.Lines.{lineLength};
 ghost use Rattle.register.specs.Build.{blank, builtOf, wordsAfter};

@@ -22,7 +22,7 @@ use Rattle.laws.proofs.Tests.{same-test, and-parts}
 use Rattle.laws.proofs.Below.{and-both}
 use Rattle.laws.proofs.Order.{le-or-lt}
 use Rattle.laws.proofs.Sort.{ascending-sorted, ascending-distinct, sort-sorted, ascending-of}
-use Rattle.index.specs.Words.{nameCount, nameWord, nameId, nameSize, namesStart}
+use Rattle.words.specs.Words.{nameCount, nameWord, nameId, nameSize, namesStart}
 use Rattle.index.specs.Good.{Good, mostNames}
 use Rattle.index.specs.Part.{Span, cut}
 use Rattle.index.specs.Lists.{listIn, spanIn}

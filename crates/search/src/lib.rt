@@ -108,11 +108,11 @@ fn sizes_present(words: &[u32]) -> [u32; 67]
     requires { ⌜ Good (now words) ⌝ }
     ensures { λ r. ⌜ r ≡ tabulate (namesOf (now (words .entry))) sizesEnd ⌝ }
 {
-    let n = index::name_count(words);
+    let n = words::name_count(words);
     let mut table = [0u32; 67];
     let mut i = 0;
     while i < n {
-        let size = index::name_size(words, i) as usize;
+        let size = words::name_size(words, i) as usize;
         table[size] = table[size] + 1;
         i += 1;
     }
@@ -549,7 +549,7 @@ fn run(
     ensures { λ r. ⌜ now (shared .exit) ≡ over (sharedColumn (now (words .entry)) (featuresOf (now (query .entry))) (givenBy r (answersOf (now (words .entry)) measure p q (featuresOf (now (query .entry)))))) (now (shared .entry)) ⌝ }
     ensures { λ r. ⌜ now (sizes .exit) ≡ over (sizeColumn (now (words .entry)) (givenBy r (answersOf (now (words .entry)) measure p q (featuresOf (now (query .entry)))))) (now (sizes .entry)) ⌝ }
 {
-    let n = index::name_count(words);
+    let n = words::name_count(words);
     let names = &words[3..3 + n];
     let found = cover_sizes(query, measure, p, q, allowance as usize, words, names);
     if found.past {

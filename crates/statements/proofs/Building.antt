@@ -13,7 +13,7 @@ use Rattle.laws.proofs.Lists.{count-ext}
 use Rattle.names.specs.Features.{featuresOf}
 use Rattle.names.specs.Shared.{sharedOf}
 use Rattle.names.proofs.Laws.{length-features}
-use Rattle.index.specs.Words.{nameCount, nameId, nameSize}
+use Rattle.words.specs.Words.{nameCount, nameId, nameSize}
 use Rattle.index.specs.Good.{goodOf}
 use Rattle.postings.specs.Built.{Entry, wordsOf}
 use Rattle.index.specs.Lists.{featuresIn}

@@ -24,7 +24,7 @@ use Rattle.likeness.specs.Least.{leastCount}
 use Rattle.likeness.specs.Terms.{lowestTerms}
 use Rattle.likeness.proofs.Measures.{measure-range, similar-fraction, facts-threshold}
 use Rattle.likeness.proofs.Least.{least-pos, least-within}
-use Rattle.index.specs.Words.{nameCount, nameId, nameSize}
+use Rattle.words.specs.Words.{nameCount, nameId, nameSize}
 use Rattle.index.specs.Good.{goodOf, Good}
 use Rattle.index.specs.Lists.{listIn, featuresIn}
 use Rattle.index.proofs.Laws.{features-member}

@@ -5,7 +5,7 @@ use mathlib.Core.Bool.{false≢true}
 use Prim.Native.Nat.{ℕ, _+_, _-_, _≤_, _<_}
 use native.Mathlib.Omega.{arith}
 use lib.ListN.{length, getD, set, length-set}
-use Rattle.index.specs.Words.{namesStart, postingsStart, rowStart, rowWidth, nameCount, rowLength, rowSize, posting}
+use Rattle.words.specs.Words.{namesStart, postingsStart, rowStart, rowWidth, nameCount, rowLength, rowSize, posting}
 use Rattle.index.specs.Lists.{nameFor}
 use Rattle.index.proofs.Facts.{head-facts}
 use Rattle.index.proofs.Rows.{row-in}

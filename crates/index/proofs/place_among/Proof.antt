@@ -5,9 +5,8 @@ use native.Mathlib.Omega.{arith}
 use borrow.Author.Needs.{needs}
 use lib.ListN.{getD}
 use Rattle.laws.specs.Below.{countBelow}
-use Rattle.index.specs.Words.{rowCount, rowStart}
+use Rattle.words.specs.Words.{rowCount, rowStart, keyOf, rowKey}
 use Rattle.index.specs.Part.{Span}
-use Rattle.index.specs.Lists.{keyOf, rowKey}
 use Rattle.index.proofs.Laws.{good-three}
 use Rattle.index.proofs.Rows.{row-within, keyBelow, span-wide, span-met, span-other, span-row}
 use Rattle.index.proofs.Sized.{under-most, under-next, among-found, among-none}

@@ -4,8 +4,7 @@ use Prim.Native.Nat.{ℕ, _<_}
 use native.Mathlib.Omega.{arith}
 use borrow.Author.Needs.{needs}
 use lib.ListN.{getD}
-use Rattle.index.specs.Words.{rowStart}
-use Rattle.index.specs.Lists.{keyOf, rowKey}
+use Rattle.words.specs.Words.{rowStart, keyOf, rowKey}
 use Rattle.index.specs.Part.{Span}
 use Rattle.index.proofs.Laws.{good-three}
 use Rattle.index.proofs.Rows.{row-within, span-wide, span-met, span-other, span-after, span-row}

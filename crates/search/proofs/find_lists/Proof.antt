@@ -28,7 +28,7 @@ counts c =
     let f = getD (b .args .features .now) (c .before .before .before .loop .j) 0 in
     let e = c .place-among .ensures .1 ∙ span-count (b .args .words .now) (b .pre .0) (b .args .size) f in
     let l = list-length (b .args .words .now) (b .pre .0) (b .args .size) f in
-    let m = count-below-most (Rattle.index.specs.Words.nameCount (b .args .words .now)) (λ (i : ℕ). lib.Dec.eqb (Rattle.index.specs.Words.nameSize (b .args .words .now) i) (b .args .size)) in
+    let m = count-below-most (Rattle.words.specs.Words.nameCount (b .args .words .now)) (λ (i : ℕ). lib.Dec.eqb (Rattle.words.specs.Words.nameSize (b .args .words .now) i) (b .args .size)) in
     let n = good-names-most (b .args .words .now) (b .pre .0) in
     (e, omega arith)
 

@@ -7,7 +7,7 @@ use lib.ListN.{length, getD, set}
 use Rattle.laws.specs.Lists.{tabulate}
 use Rattle.laws.proofs.Lists.{length-tabulate, getD-tabulate}
 use Rattle.laws.proofs.Below.{count-below-most}
-use Rattle.index.specs.Words.{nameCount, nameSize}
+use Rattle.words.specs.Words.{nameCount, nameSize}
 use Rattle.index.proofs.Laws.{good-three, good-within, good-names-most, good-name-within}
 use Rattle.search.proofs.Places.{sizesOf, sizes-nil, sizes-step}
 use Rattle.search.proofs.sizes_present.Statement.{statement}

@@ -1,9 +1,9 @@
 -- `row_length` meets its contract.
 use mathlib.Core.Path.{_∙_}
-use Rattle.index.specs.Words.{rowLength}
+use Rattle.words.specs.Words.{rowLength}
 use borrow.Author.Needs.{needs}
-use Rattle.index.proofs.row_length.Statement.{statement}
-use Rattle.index.proofs.row_length.Tie as tie
+use Rattle.words.proofs.row_length.Statement.{statement}
+use Rattle.words.proofs.row_length.Tie as tie
 
 row-word-requires : tie.Need-row-word-requires
 row-word-requires c κs = search needs

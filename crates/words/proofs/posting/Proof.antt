@@ -2,10 +2,10 @@
 use mathlib.Core.Path.{ap, _∙_}
 use Prim.Native.Nat.{ℕ, _+_}
 use lib.ListN.{getD}
-use Rattle.index.specs.Words.{rowStart, posting}
+use Rattle.words.specs.Words.{rowStart, posting}
 use borrow.Author.Needs.{needs}
-use Rattle.index.proofs.posting.Statement.{statement}
-use Rattle.index.proofs.posting.Tie as tie
+use Rattle.words.proofs.posting.Statement.{statement}
+use Rattle.words.proofs.posting.Tie as tie
 
 row-count-requires : tie.Need-row-count-requires
 row-count-requires c κs = search needs

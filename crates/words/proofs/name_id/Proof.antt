@@ -1,9 +1,9 @@
 -- `name_id` meets its contract: the word above its low byte.
 use mathlib.Core.Path.{refl}
-use Rattle.index.specs.Words.{nameWord, nameId}
+use Rattle.words.specs.Words.{nameWord, nameId}
 use borrow.Author.Needs.{needs}
-use Rattle.index.proofs.name_id.Statement.{statement}
-use Rattle.index.proofs.name_id.Tie as tie
+use Rattle.words.proofs.name_id.Statement.{statement}
+use Rattle.words.proofs.name_id.Tie as tie
 
 add-result : tie.Need-add-result
 add-result c = search needs

@@ -1,9 +1,9 @@
 -- `name_size` meets its contract: the low byte of the word.
 use mathlib.Core.Path.{refl}
-use Rattle.index.specs.Words.{nameWord, nameSize}
+use Rattle.words.specs.Words.{nameWord, nameSize}
 use borrow.Author.Needs.{needs}
-use Rattle.index.proofs.name_size.Statement.{statement}
-use Rattle.index.proofs.name_size.Tie as tie
+use Rattle.words.proofs.name_size.Statement.{statement}
+use Rattle.words.proofs.name_size.Tie as tie
 
 add-result : tie.Need-add-result
 add-result c = search needs

@@ -3,8 +3,8 @@ use mathlib.Core.Path.{ap}
 use Prim.Native.Nat.{ℕ, _+_}
 use lib.ListN.{getD}
 use borrow.Author.Needs.{needs}
-use Rattle.index.proofs.row_word.Statement.{statement}
-use Rattle.index.proofs.row_word.Tie as tie
+use Rattle.words.proofs.row_word.Statement.{statement}
+use Rattle.words.proofs.row_word.Tie as tie
 
 row-start-requires : tie.Need-row-start-requires
 row-start-requires c κs = search needs

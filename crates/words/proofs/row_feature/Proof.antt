@@ -1,8 +1,8 @@
 -- `row_feature` meets its contract.
-use Rattle.index.specs.Words.{rowFeature}
+use Rattle.words.specs.Words.{rowFeature}
 use borrow.Author.Needs.{needs}
-use Rattle.index.proofs.row_feature.Statement.{statement}
-use Rattle.index.proofs.row_feature.Tie as tie
+use Rattle.words.proofs.row_feature.Statement.{statement}
+use Rattle.words.proofs.row_feature.Tie as tie
 
 row-word-requires : tie.Need-row-word-requires
 row-word-requires c κs = search needs

@@ -3,7 +3,7 @@
 -- Past the end of the slice a word is 0.
 -- Assumes nothing.
 use mathlib.Core.List.{List}
-use Prim.Native.Nat.{ℕ, _+_, _*_, _/_, _%_}
+use Prim.Native.Nat.{ℕ, _+_, _*_, _/_, _%_, _^_}
 use lib.ListN.{getD, take, drop}
 
 -- ---- the head
@@ -60,6 +60,20 @@ rowPlace w r = getD w (rowStart w r + 2) 0
 
 unfoldable pub rowLength : List ℕ → ℕ → ℕ
 rowLength w r = getD w (rowStart w r + 3) 0
+
+-- ---- a row by one number
+
+-- features are below this
+abbrev pub featureSpan : ℕ
+featureSpan = 2 ^ 32
+
+-- a size and a feature as one number
+abbrev pub keyOf : ℕ → ℕ → ℕ
+keyOf size feature = size * featureSpan + feature
+
+-- a row's size and feature as one number, by which the rows ascend
+unfoldable pub rowKey : List ℕ → ℕ → ℕ
+rowKey w r = keyOf (rowSize w r) (rowFeature w r)
 
 -- ---- a posting
 

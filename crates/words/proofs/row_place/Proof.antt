@@ -1,9 +1,9 @@
 -- `row_place` meets its contract.
 use mathlib.Core.Path.{_∙_}
-use Rattle.index.specs.Words.{rowPlace}
+use Rattle.words.specs.Words.{rowPlace}
 use borrow.Author.Needs.{needs}
-use Rattle.index.proofs.row_place.Statement.{statement}
-use Rattle.index.proofs.row_place.Tie as tie
+use Rattle.words.proofs.row_place.Statement.{statement}
+use Rattle.words.proofs.row_place.Tie as tie
 
 row-word-requires : tie.Need-row-word-requires
 row-word-requires c κs = search needs

@@ -1,10 +1,10 @@
 -- `row_key` meets its contract.
 use mathlib.Core.Path.{ap₂}
 use Prim.Native.Nat.{ℕ, _+_, _*_}
-use Rattle.index.specs.Lists.{rowKey}
+use Rattle.words.specs.Words.{rowKey}
 use borrow.Author.Needs.{needs}
-use Rattle.index.proofs.row_key.Statement.{statement}
-use Rattle.index.proofs.row_key.Tie as tie
+use Rattle.words.proofs.row_key.Statement.{statement}
+use Rattle.words.proofs.row_key.Tie as tie
 
 row-size-requires : tie.Need-row-size-requires
 row-size-requires c κs = search needs

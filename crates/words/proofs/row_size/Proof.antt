@@ -3,10 +3,10 @@ use mathlib.Core.Path.{ap, _∙_}
 use Prim.Native.Nat.{ℕ}
 use native.Mathlib.Nat.{add-zero}
 use lib.ListN.{getD}
-use Rattle.index.specs.Words.{rowSize}
+use Rattle.words.specs.Words.{rowSize}
 use borrow.Author.Needs.{needs}
-use Rattle.index.proofs.row_size.Statement.{statement}
-use Rattle.index.proofs.row_size.Tie as tie
+use Rattle.words.proofs.row_size.Statement.{statement}
+use Rattle.words.proofs.row_size.Tie as tie
 
 row-word-requires : tie.Need-row-word-requires
 row-word-requires c κs = search needs
