@@ -18,7 +18,7 @@ use Rattle.names.specs.Features.{mostFeatures}
 use Rattle.words.specs.Words.{nameCount, rowCount, postingCount, nameId, nameSize, rowPlace, rowLength, postingsStart, rowKey}
 use Rattle.index.specs.Good.{mostNames, mostPostings, largestId, leastSize, headGood, nameGood, namesGood, rowBefore, placeDue, rowGood, rowsGood}
 use Rattle.index.proofs.Facts.{head-facts, names-facts, rows-facts}
-use Rattle.index.proofs.Rows.{key-before}
+use Rattle.index.proofs.Keys.{key-before}
 
 -- ---- the head
 

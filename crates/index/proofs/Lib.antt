@@ -1,8 +1,6 @@
 pub mod Facts
 pub mod Laws
-mod Rows
-mod Sized
-pub mod Spans
+pub mod Keys
 mod Check
 mod Names
 mod Tally

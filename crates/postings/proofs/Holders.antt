@@ -12,9 +12,10 @@ use Rattle.laws.proofs.Sort.{ascending-nil, ascending-snoc}
 use Rattle.laws.proofs.Images.{ascending-tabulate, map-tabulate, each-tabulate}
 use Rattle.words.specs.Words.{rowCount, rowSize, rowFeature, listAt, featureSpan, keyOf}
 use Rattle.index.specs.Good.{Good}
-use Rattle.index.specs.Lists.{rowFor, listIn, featuresAmong, featuresIn}
+use Rattle.lists.specs.Lists.{rowFor, listIn, featuresAmong, featuresIn}
 use Rattle.index.proofs.Facts.{Before, good-facts}
-use Rattle.index.proofs.Laws.{row-found, row-for, list-row, list-holder, row-named, among-at, among-of, holder-size}
+use Rattle.lists.proofs.Laws.{row-found, row-for, list-row, list-holder, among-at, among-of, holder-size}
+use Rattle.index.proofs.Laws.{row-named}
 use Rattle.postings.specs.Built.{Row, RowFit, RowsFit}
 use Rattle.postings.specs.Contents.{rowIn, rowsIn, Narrow}
 use Rattle.postings.specs.Plain.{Plain}

@@ -15,7 +15,7 @@ use Rattle.names.specs.Features.{mostFeatures}
 use Rattle.likeness.specs.Sizes.{isSearched}
 use Rattle.likeness.specs.Least.{leastCount}
 use Rattle.words.specs.Words.{nameCount, nameId, nameSize, featureSpan, keyOf}
-use Rattle.index.specs.Lists.{listIn}
+use Rattle.lists.specs.Lists.{listIn}
 
 -- ---- one size: the lists of the query's features, in their order
 

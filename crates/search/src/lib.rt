@@ -139,10 +139,10 @@ fn find_lists(words: &[u32], features: &[u64], size: u32, starts: &mut [usize], 
     requires { ⌜ Good (now words) × (length (now features) ≤ mostFeatures) × (length (now starts) ≡ mostFeatures) × (length (now keys) ≡ length (now features)) ⌝ }
     ensures { λ r. ⌜ (now (starts .exit) ≡ tabulate (startOf (now (words .entry)) size (now (features .entry))) (length (now (features .entry))) ++ drop (length (now (features .entry))) (now (starts .entry))) × (now (keys .exit) ≡ tabulate (smallKey (now (words .entry)) size (now (features .entry))) (length (now (features .entry))) ++ drop (length (now (features .entry))) (now (keys .entry))) ⌝ }
 {
-    let rows = index::rows_of_size(words, size);
+    let rows = lists::rows_of_size(words, size);
     let mut j = 0;
     while j < features.len() {
-        let place = index::place_among(words, rows.from, rows.to, size, features[j]);
+        let place = lists::place_among(words, rows.from, rows.to, size, features[j]);
         starts[j] = place.start;
         keys[j] = place.count as u64 * 256 + j as u64;
         j += 1;

@@ -16,7 +16,7 @@ use Rattle.names.proofs.Laws.{length-features}
 use Rattle.words.specs.Words.{nameCount, nameId, nameSize}
 use Rattle.index.specs.Good.{goodOf}
 use Rattle.postings.specs.Built.{Entry, wordsOf}
-use Rattle.index.specs.Lists.{featuresIn}
+use Rattle.lists.specs.Lists.{featuresIn}
 use Rattle.register.specs.Lines.{linesOf, nthLine}
 use Rattle.register.specs.Build.{idIn, nameOf, wordsAfter, builtOf}
 use Rattle.register.proofs.Laws.{accepted-good, refused-words, refused-bad}

@@ -6,8 +6,8 @@ use native.Mathlib.Omega.{arith}
 use lib.ListN.{length, getD, set, length-set}
 use Rattle.laws.proofs.Tables.{tableOver, over-nil, over-step}
 use Rattle.laws.proofs.Below.{count-below-most}
-use Rattle.index.specs.Lists.{listIn}
-use Rattle.index.proofs.Spans.{span-count}
+use Rattle.lists.specs.Lists.{listIn}
+use Rattle.lists.proofs.Spans.{span-count}
 use Rattle.index.proofs.Laws.{good-names-most}
 use Rattle.search.specs.Tables.{startOf, smallKey}
 use Rattle.search.proofs.Work.{list-length}

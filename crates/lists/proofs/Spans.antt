@@ -10,11 +10,11 @@ use lib.Seq.{length-take-le}
 use borrow.Author.Tests.{lt-ltb}
 use Rattle.laws.proofs.Order.{le-or-lt}
 use Rattle.words.specs.Words.{rowCount}
 use Rattle.index.specs.Good.{Good}
-use Rattle.index.specs.Part.{Span}
-use Rattle.index.specs.Lists.{rowFor, spanAt, spanIn, listIn}
-use Rattle.index.proofs.Laws.{span-words}
-use Rattle.index.proofs.Rows.{list-end, span-past}
+use Rattle.lists.specs.Part.{Span}
+use Rattle.lists.specs.Lists.{rowFor, spanAt, spanIn, listIn}
+use Rattle.lists.proofs.Laws.{span-words}
+use Rattle.lists.proofs.Rows.{list-end, span-past}
 
 span-at-within : (w : List ℕ) → Good w → (r : ℕ) → spanAt w r .start + spanAt w r .count ≤ length w
 span-at-within w g r =

@@ -2,14 +2,13 @@
 -- Assumes nothing.
 use mathlib.Core.Bool.{Bool, cond, _&&_}
 use mathlib.Core.List.{List, [], _∷_, _++_}
-use Prim.Native.Nat.{ℕ, zero, suc, _+_, _*_, _^_}
+use Prim.Native.Nat.{ℕ, zero, suc}
 use lib.Dec.{ltb, eqb}
 use Rattle.laws.specs.Lists.{member}
 use Rattle.laws.specs.First.{firstFrom}
-use Rattle.laws.specs.Below.{countBelow}
-use Rattle.words.specs.Words.{nameCount, rowCount, nameId, nameSize, rowSize, rowFeature, rowLength, listStart, listAt}
+use Rattle.words.specs.Words.{rowCount, rowSize, rowFeature, rowLength, listStart, listAt}
 use Rattle.index.specs.Good.{goodOf}
-use Rattle.index.specs.Part.{Span, none}
+use Rattle.lists.specs.Part.{Span, none}
 
 -- whether row r is that of the size and the feature
 unfoldable pub rowIs : List ℕ → ℕ → ℕ → ℕ → Bool
@@ -34,16 +33,6 @@ spanFor w size feature = cond (goodOf w) (spanIn w size feature) none
 -- the list of the size and the feature; empty where no row exists
 unfoldable pub listIn : List ℕ → ℕ → ℕ → List ℕ
 listIn w size feature = let r = rowFor w size feature in cond (ltb r (rowCount w)) (listAt w r) []
-
--- ---- where a name stands
-
--- how many names have an id below: the place of the id's name, where it is one
-unfoldable pub namePlace : List ℕ → ℕ → ℕ
-namePlace w id = countBelow (nameCount w) (λ (i : ℕ). ltb (nameId w i) id)
-
--- the place of the name of that id and that size; N where there is none
-unfoldable pub nameFor : List ℕ → ℕ → ℕ → ℕ
-nameFor w size id = firstFrom (λ (i : ℕ). eqb (nameId w i) id && eqb (nameSize w i) size) (nameCount w) 0
 
 -- ---- what a name stands for
 

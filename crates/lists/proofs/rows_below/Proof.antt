@@ -8,9 +8,9 @@ use lib.Dec.{ltb}
 use borrow.Author.Tests.{lt-ltb, le-ltb}
 use lib.Pow.{pow-pos}
 use Rattle.laws.proofs.Halving.{Falling, Stretch, stretch-first, digit-within, stretch-digit, stretch-none}
-use Rattle.index.proofs.Rows.{rows-most, row-within, keyBelow, key-falls}
-use Rattle.index.proofs.rows_below.Statement.{statement}
-use Rattle.index.proofs.rows_below.Tie as tie
+use Rattle.lists.proofs.Rows.{rows-most, row-within, keyBelow, key-falls}
+use Rattle.lists.proofs.rows_below.Statement.{statement}
+use Rattle.lists.proofs.rows_below.Tie as tie
 
 abbrev Inv-loop : tie.InvT-loop
 Inv-loop words from to key n k₀ rest base₀ k base = (k < 64) × Stretch (keyBelow words from key) (to - from) base (2 ^ k - 1)

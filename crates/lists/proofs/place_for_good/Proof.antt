@@ -5,11 +5,11 @@ use native.Mathlib.Omega.{arith}
 use borrow.Author.Needs.{needs}
 use lib.ListN.{getD}
 use Rattle.words.specs.Words.{rowStart, keyOf, rowKey}
-use Rattle.index.specs.Part.{Span}
+use Rattle.lists.specs.Part.{Span}
 use Rattle.index.proofs.Laws.{good-three}
-use Rattle.index.proofs.Rows.{row-within, span-wide, span-met, span-other, span-after, span-row}
-use Rattle.index.proofs.place_for_good.Statement.{statement}
-use Rattle.index.proofs.place_for_good.Tie as tie
+use Rattle.lists.proofs.Rows.{row-within, span-wide, span-met, span-other, span-after, span-row}
+use Rattle.lists.proofs.place_for_good.Statement.{statement}
+use Rattle.lists.proofs.place_for_good.Tie as tie
 
 -- every word fits 32 bits
 fits : (c : tie.After-shared-slice-known) → (i : ℕ) → getD (c .before .args .words .now) i 0 < 4294967296

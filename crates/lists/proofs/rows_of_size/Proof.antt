@@ -4,11 +4,11 @@ use Prim.Native.Nat.{ℕ, _+_, _*_, _<_}
 use native.Mathlib.Omega.{arith}
 use borrow.Author.Needs.{needs}
 use lib.ListN.{getD}
-use Rattle.index.specs.Sizes.{rowsUnder}
+use Rattle.lists.specs.Sizes.{rowsUnder}
 use Rattle.index.proofs.Laws.{good-three}
-use Rattle.index.proofs.Sized.{under-most, under-next, under-all, under-found}
-use Rattle.index.proofs.rows_of_size.Statement.{statement}
-use Rattle.index.proofs.rows_of_size.Tie as tie
+use Rattle.lists.proofs.Sized.{under-most, under-next, under-all, under-found}
+use Rattle.lists.proofs.rows_of_size.Statement.{statement}
+use Rattle.lists.proofs.rows_of_size.Tie as tie
 
 -- every word fits 32 bits
 word : (c : tie.After-shared-slice-known) → (i : ℕ) → getD (c .before .args .words .now) i 0 < 4294967296

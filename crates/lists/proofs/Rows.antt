@@ -2,28 +2,26 @@
 -- Cited by the proofs of `rows_below` and `place_for_good`.
 -- Assumes nothing.
 use mathlib.Core.Path.{_≡_, sym, ap, subst, _∙_}
-use mathlib.Core.Logic.{⊎-elim, inl, inr}
-use mathlib.Core.Bool.{Bool, true}
+use mathlib.Core.Logic.{⊎-elim}
+use mathlib.Core.Bool.{Bool}
 use mathlib.Core.List.{List}
 use Prim.Native.Nat.{ℕ, _+_, _-_, _≤_, _<_}
 use native.Mathlib.Nat.{eq-or-lt-of-le, zero-add, sub-zero}
 use native.Mathlib.Omega.{arith}
 use lib.ListN.{length, getD}
 use lib.Dec.{ltb}
-use borrow.Author.Tests.{lt-ltb, le-ltb, ltb-true, ltb-false, eq-eqb}
+use borrow.Author.Tests.{lt-ltb, le-ltb, ltb-true, ltb-false}
 use Rattle.laws.specs.Below.{countBelow}
 use Rattle.laws.proofs.Halving.{Falling, Stretch, falling-count}
 use Rattle.laws.proofs.Order.{le-or-lt}
-use Rattle.words.specs.Words.{rowCount, rowSize, rowFeature, rowPlace, rowLength, rowWidth, rowStart, listStart, total, postingsStart, keyOf, rowKey}
-use Rattle.index.specs.Good.{rowBefore, Good}
-use Rattle.index.specs.Lists.{rowFor, spanAt, spanIn}
-use Rattle.index.specs.Part.{none}
-use Rattle.index.proofs.Facts.{Before, good-facts, list-within}
-use Rattle.index.proofs.Laws.{row-found, row-for}
-
--- where the head is right, a row's words lie within the slice
-pub row-in : (w : List ℕ) (r : ℕ) → total w ≤ length w → r < rowCount w → rowStart w r + rowWidth ≤ length w
-row-in w r h l = omega arith
+use Rattle.words.proofs.Laws.{row-in, feature-word}
+use Rattle.index.proofs.Keys.{key-before}
+use Rattle.words.specs.Words.{rowCount, rowSize, rowFeature, rowPlace, rowLength, rowWidth, rowStart, listStart, postingsStart, keyOf, rowKey}
+use Rattle.index.specs.Good.{Good}
+use Rattle.lists.specs.Lists.{rowFor, spanAt, spanIn}
+use Rattle.lists.specs.Part.{none}
+use Rattle.index.proofs.Facts.{good-facts, list-within}
+use Rattle.lists.proofs.Laws.{row-found, row-for}
 
 pub rows-most : (w : List ℕ) → Good w → 3 + rowCount w ≤ length w
 rows-most w g = let h = good-facts w g .head .within in omega arith
@@ -52,29 +50,6 @@ span-past w r l = rw (le-ltb r (rowCount w) l)
 abbrev pub keyBelow : List ℕ → ℕ → ℕ → ℕ → Bool
 keyBelow w from key i = ltb (rowKey w (from + i)) key
 
-module _ (w : List ℕ) (fits : (i : ℕ) → getD w i 0 < 4294967296) where
-  feature-fits : (r : ℕ) → rowFeature w r < 4294967296
-  unfolding rowFeature
-  feature-fits r = fits (rowStart w r + 1)
-
-  -- a row stands before another exactly if its key is below
-  pub key-before : (r s : ℕ) → Before w r s → rowKey w r < rowKey w s
-  unfolding rowKey Before
-  key-before r s (inl a) = let p = feature-fits r in omega arith
-  key-before r s (inr a) = let p = a .0 in let q = a .1 in omega arith
-
-  pub before-key : (r s : ℕ) → rowKey w r < rowKey w s → rowBefore w r s ≡ true
-  unfolding rowKey rowBefore
-  before-key r s h =
-      let q = feature-fits s in
-      ⊎-elim
-      (λ (l : rowSize w s ≤ rowSize w r).
-      let e : rowSize w r ≡ rowSize w s = omega arith in
-      rw (le-ltb (rowSize w r) (rowSize w s) l, eq-eqb (rowSize w r) (rowSize w s) e)
-      (lt-ltb (rowFeature w r) (rowFeature w s) (omega arith)))
-      (λ (l : rowSize w r < rowSize w s). rw (lt-ltb (rowSize w r) (rowSize w s) l))
-      (le-or-lt (rowSize w s) (rowSize w r))
-
 module _ (w : List ℕ) (g : Good w) (fits : (i : ℕ) → getD w i 0 < 4294967296) where
   key-rises : (r s : ℕ) → r < s → s < rowCount w → rowKey w r < rowKey w s
   key-rises r s l m = key-before w fits r s (good-facts w g .rows .before r s l m)
@@ -91,7 +66,7 @@ module _ (w : List ℕ) (g : Good w) (fits : (i : ℕ) → getD w i 0 < 42949672
   key-parts : (r y f : ℕ) → f < 4294967296 → rowKey w r ≡ keyOf y f → (rowSize w r ≡ y) × (rowFeature w r ≡ f)
   unfolding rowKey
   key-parts r y f l e =
-      let p = feature-fits w fits r in
+      let p = feature-word w fits r in
       let a : rowSize w r ≡ y = omega arith in
       (a, omega arith)
 
@@ -121,7 +96,7 @@ module _ (w : List ℕ) (g : Good w) (fits : (i : ℕ) → getD w i 0 < 42949672
       (λ (l : rowCount w ≤ rowFor w y f). span-past w (rowFor w y f) l)
       (λ (l : rowFor w y f < rowCount w).
       let b = row-found w y f l .1 in
-      let c = feature-fits w fits (rowFor w y f) in
+      let c = feature-word w fits (rowFor w y f) in
       absurd (omega arith))
       (le-or-lt (rowCount w) (rowFor w y f))
 

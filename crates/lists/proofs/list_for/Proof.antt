@@ -1,9 +1,9 @@
 -- `list_for` meets its contract: a list only where the index is good.
 use mathlib.Core.Path.{sym, _∙_}
-use Rattle.index.specs.Lists.{spanFor}
+use Rattle.lists.specs.Lists.{spanFor}
 use borrow.Author.Needs.{needs}
-use Rattle.index.proofs.list_for.Statement.{statement}
-use Rattle.index.proofs.list_for.Tie as tie
+use Rattle.lists.proofs.list_for.Statement.{statement}
+use Rattle.lists.proofs.list_for.Tie as tie
 
 good-requires : tie.Need-good-requires
 good-requires c κs = search needs

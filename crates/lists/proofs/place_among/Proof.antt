@@ -6,12 +6,12 @@ use borrow.Author.Needs.{needs}
 use lib.ListN.{getD}
 use Rattle.laws.specs.Below.{countBelow}
 use Rattle.words.specs.Words.{rowCount, rowStart, keyOf, rowKey}
-use Rattle.index.specs.Part.{Span}
+use Rattle.lists.specs.Part.{Span}
 use Rattle.index.proofs.Laws.{good-three}
-use Rattle.index.proofs.Rows.{row-within, keyBelow, span-wide, span-met, span-other, span-row}
-use Rattle.index.proofs.Sized.{under-most, under-next, among-found, among-none}
-use Rattle.index.proofs.place_among.Statement.{statement}
-use Rattle.index.proofs.place_among.Tie as tie
+use Rattle.lists.proofs.Rows.{row-within, keyBelow, span-wide, span-met, span-other, span-row}
+use Rattle.lists.proofs.Sized.{under-most, under-next, among-found, among-none}
+use Rattle.lists.proofs.place_among.Statement.{statement}
+use Rattle.lists.proofs.place_among.Tie as tie
 
 -- every word fits 32 bits
 word : (c : tie.After-shared-slice-known) → (i : ℕ) → getD (c .before .args .words .now) i 0 < 4294967296

@@ -4,10 +4,10 @@ use Prim.Native.Nat.{ℕ, _+_, _≤_}
 use native.Mathlib.Nat.{add-sub-cancel-left}
 use native.Mathlib.Omega.{arith}
 use lib.ListN.{length, take, drop}
-use Rattle.index.proofs.Spans.{span-within}
+use Rattle.lists.proofs.Spans.{span-within}
 use borrow.Author.Needs.{needs}
-use Rattle.index.proofs.list_for_good.Statement.{statement}
-use Rattle.index.proofs.list_for_good.Tie as tie
+use Rattle.lists.proofs.list_for_good.Statement.{statement}
+use Rattle.lists.proofs.list_for_good.Tie as tie
 
 -- the list lies within the words
 within : (c : tie.After-struct-known) → c .before .place-for-good .result .start + c .before .place-for-good .result .count ≤ length (c .before .before .before .args .words .now)

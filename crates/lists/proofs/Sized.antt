@@ -15,13 +15,14 @@ use Rattle.laws.specs.Below.{countBelow}
 use Rattle.laws.proofs.Below.{sum-below-ext, count-below-most, count-below-mono}
 use Rattle.laws.proofs.Halving.{Falling, Stretch, falling-count, count-below-place}
 use Rattle.laws.proofs.Order.{le-or-lt}
-use Rattle.words.specs.Words.{rowCount, rowSize, rowFeature, rowStart, keyOf, rowKey}
+use Rattle.words.proofs.Laws.{feature-word, size-word}
+use Rattle.words.specs.Words.{rowCount, rowSize, rowFeature, keyOf, rowKey}
 use Rattle.index.specs.Good.{Good}
-use Rattle.index.specs.Part.{none}
-use Rattle.index.specs.Lists.{spanIn}
-use Rattle.index.specs.Sizes.{rowsUnder}
+use Rattle.lists.specs.Part.{none}
+use Rattle.lists.specs.Lists.{spanIn}
+use Rattle.lists.specs.Sizes.{rowsUnder}
 use Rattle.index.proofs.Facts.{Before, good-facts}
-use Rattle.index.proofs.Rows.{keyBelow, key-falls, span-other, span-after}
+use Rattle.lists.proofs.Rows.{keyBelow, key-falls, span-other, span-after}
 
 -- where the numbers before `from` pass and those from `to` on fail, only those between have to be asked
 count-among : (t : ℕ → Bool) (d from to : ℕ) → from ≤ to → to ≤ d → ((i : ℕ) → i < from → t i ≡ true)
@@ -91,28 +92,20 @@ module _ (w : List ℕ) (g : Good w) where
   size-from y r l m = let h = ltb-false (rowSize w r) y (under y .above r (omega arith) m) in omega arith
 
   module _ (fits : (i : ℕ) → getD w i 0 < 4294967296) where
-    feature-word : (r : ℕ) → rowFeature w r < 4294967296
-    unfolding rowFeature
-    feature-word r = fits (rowStart w r + 1)
-
-    size-word : (r : ℕ) → rowSize w r < 4294967296
-    unfolding rowSize
-    size-word r = fits (rowStart w r)
-
     -- every size is below 2 ^ 32
     pub under-all : (y : ℕ) → y ≡ 4294967295 → rowCount w ≡ rowsUnder w (y + 1)
     unfolding rowsUnder
     under-all y e =
         sym
         (count-below-place (λ (r : ℕ). ltb (rowSize w r) (y + 1)) (rowCount w) (rowCount w) (omega arith)
-        (λ r l. let h = size-word r in lt-ltb (rowSize w r) (y + 1) (omega arith))
+        (λ r l. let h = size-word w fits r in lt-ltb (rowSize w r) (y + 1) (omega arith))
         (λ r l m. absurd (omega arith)))
 
     -- rows whose key is below that of the size without a feature have a size below
     key-under : (y key r : ℕ) → key ≡ y * 4294967296 → ltb (rowKey w r) key ≡ ltb (rowSize w r) y
     unfolding rowKey
     key-under y key r e =
-        let f = feature-word r in
+        let f = feature-word w fits r in
         ⊎-elim
         (λ (l : y ≤ rowSize w r). le-ltb (keyOf (rowSize w r) (rowFeature w r)) key (omega arith) ∙ sym (le-ltb (rowSize w r) y l))
         (λ (l : rowSize w r < y). lt-ltb (keyOf (rowSize w r) (rowFeature w r)) key (omega arith) ∙ sym (lt-ltb (rowSize w r) y l))
@@ -149,7 +142,7 @@ module _ (w : List ℕ) (g : Good w) where
         before : (i : ℕ) → i < from → ltb (rowKey w i) (keyOf y f) ≡ true
         before i h =
             let s = size-under y i (omega arith) in
-            let u = feature-word i in
+            let u = feature-word w fits i in
             lt-ltb (keyOf (rowSize w i) (rowFeature w i)) (keyOf y f) (omega arith)
 
         after : (i : ℕ) → to ≤ i → i < d → ltb (rowKey w i) (keyOf y f) ≡ false
