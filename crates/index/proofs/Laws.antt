@@ -14,10 +14,10 @@ use Rattle.laws.specs.Lists.{member, Ascending}
 use Rattle.laws.proofs.Below.{and-left, and-right, any-at}
 use Rattle.laws.proofs.Tests.{test-fails}
 use Rattle.laws.proofs.Ascending.{rises, rises-apart, member-place, ascending-next}
+use Rattle.laws.proofs.Halving.{count-below-place}
 use Rattle.words.specs.Words.{nameCount, rowCount, postingCount, nameId, nameSize, rowSize, rowPlace, rowLength, posting, listAt, total}
 use Rattle.index.specs.Good.{mostNames, mostPostings, isName, Good, headGood, namesGood, rowsGood, listsGood, goodOf}
 use Rattle.index.specs.Check.{namePlace, Checked}
-use Rattle.laws.proofs.Halving.{count-below-place}
 use Rattle.index.proofs.Total.{total-good}
 use Rattle.index.proofs.Facts.{Whole, good-facts, length-list, list-getD}
 

@@ -23,10 +23,10 @@ use Rattle.names.specs.Shared.{sharedOf}
 use Rattle.names.proofs.Shared.{shared-le-right}
 use Rattle.words.specs.Words.{nameCount, rowCount, nameId, nameSize, rowSize, rowFeature, rowLength, listAt}
 use Rattle.index.specs.Good.{listsWith, Good}
-use Rattle.lists.specs.Lists.{rowIs, rowFor, spanAt, spanIn, listIn, featuresAmong, featuresIn}
-use Rattle.lists.specs.Part.{none, cut}
 use Rattle.index.proofs.Facts.{before-apart, good-facts}
 use Rattle.index.proofs.Laws.{good-ids-apart, row-ascending, row-named}
+use Rattle.lists.specs.Lists.{rowIs, rowFor, spanAt, spanIn, listIn, featuresAmong, featuresIn}
+use Rattle.lists.specs.Part.{none, cut}
 
 -- ---- the rows
 

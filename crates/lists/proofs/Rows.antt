@@ -14,13 +14,13 @@ use borrow.Author.Tests.{lt-ltb, le-ltb, ltb-true, ltb-false}
 use Rattle.laws.specs.Below.{countBelow}
 use Rattle.laws.proofs.Halving.{Falling, Stretch, falling-count}
 use Rattle.laws.proofs.Order.{le-or-lt}
-use Rattle.words.proofs.Laws.{row-in, feature-word}
-use Rattle.index.proofs.Keys.{key-before}
 use Rattle.words.specs.Words.{rowCount, rowSize, rowFeature, rowPlace, rowLength, rowWidth, rowStart, listStart, postingsStart, keyOf, rowKey}
+use Rattle.words.proofs.Laws.{row-in, feature-word}
 use Rattle.index.specs.Good.{Good}
+use Rattle.index.proofs.Keys.{key-before}
+use Rattle.index.proofs.Facts.{good-facts, list-within}
 use Rattle.lists.specs.Lists.{rowFor, spanAt, spanIn}
 use Rattle.lists.specs.Part.{none}
-use Rattle.index.proofs.Facts.{good-facts, list-within}
 use Rattle.lists.proofs.Laws.{row-found, row-for}
 
 pub rows-most : (w : List ℕ) → Good w → 3 + rowCount w ≤ length w

@@ -15,13 +15,13 @@ use Rattle.laws.specs.Below.{countBelow}
 use Rattle.laws.proofs.Below.{sum-below-ext, count-below-most, count-below-mono}
 use Rattle.laws.proofs.Halving.{Falling, Stretch, falling-count, count-below-place}
 use Rattle.laws.proofs.Order.{le-or-lt}
-use Rattle.words.proofs.Laws.{feature-word, size-word}
 use Rattle.words.specs.Words.{rowCount, rowSize, rowFeature, keyOf, rowKey}
+use Rattle.words.proofs.Laws.{feature-word, size-word}
 use Rattle.index.specs.Good.{Good}
+use Rattle.index.proofs.Facts.{Before, good-facts}
 use Rattle.lists.specs.Part.{none}
 use Rattle.lists.specs.Lists.{spanIn}
 use Rattle.lists.specs.Sizes.{rowsUnder}
-use Rattle.index.proofs.Facts.{Before, good-facts}
 use Rattle.lists.proofs.Rows.{keyBelow, key-falls, span-other, span-after}
 
 -- where the numbers before `from` pass and those from `to` on fail, only those between have to be asked

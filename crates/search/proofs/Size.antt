@@ -24,9 +24,9 @@ use Rattle.laws.proofs.Order.{le-or-lt}
 use Rattle.laws.proofs.Sort.{ascending-sorted, ascending-distinct, sort-sorted, ascending-of}
 use Rattle.words.specs.Words.{nameCount, nameWord, nameId, nameSize, namesStart}
 use Rattle.index.specs.Good.{Good, mostNames}
+use Rattle.index.proofs.Laws.{good-names-most, good-within, good-ids, good-ids-apart}
 use Rattle.lists.specs.Part.{Span, cut}
 use Rattle.lists.specs.Lists.{listIn, spanIn}
-use Rattle.index.proofs.Laws.{good-names-most, good-within, good-ids, good-ids-apart}
 use Rattle.lists.proofs.Laws.{good-named, good-ascending, span-words}
 use Rattle.lists.proofs.Spans.{span-within, span-count}
 use Rattle.search.specs.Method.{listsFor, heldBy, signatures, signaturePostings, remains, remaining, laterCount, touchesAt}

@@ -29,9 +29,9 @@ use Rattle.likeness.specs.Least.{leastCount}
 use Rattle.likeness.proofs.Least.{least-pos, least-within}
 use Rattle.words.specs.Words.{nameCount, nameId, nameSize, featureSpan, keyOf}
 use Rattle.index.specs.Good.{Good, mostNames, mostPostings}
+use Rattle.index.proofs.Laws.{good-names-most, good-name-within}
 use Rattle.lists.specs.Lists.{listIn}
 use Rattle.lists.proofs.Laws.{good-ascending, good-named}
-use Rattle.index.proofs.Laws.{good-names-most, good-name-within}
 use Rattle.names.specs.Features.{mostFeatures}
 use Rattle.search.specs.Method.{namesOf, orderedFor, listsFor, heldBy, signatures, signaturePostings, remains, remaining, laterCount, touchesAt, sizesEnd, touchesOfSize, touchesOf}
 use Rattle.search.proofs.Laws.{count-map, count-ordered, length-lists, Query}

@@ -11,8 +11,8 @@ use Rattle.laws.specs.Below.{sumBelow, countBelow}
 use Rattle.laws.specs.Each.{Each}
 use Rattle.names.specs.Features.{mostFeatures}
 use Rattle.words.specs.Words.{nameCount, nameSize, namesStart, featureSpan}
-use Rattle.lists.specs.Lists.{spanIn, listIn}
 use Rattle.index.specs.Good.{mostNames}
+use Rattle.lists.specs.Lists.{spanIn, listIn}
 use Rattle.search.specs.Method.{listsFor, heldBy, signatures, remains, laterCount, touchesAt, sharedWith, sizesEnd, touchesOfSize, touchesOf, listed}
 
 -- ---- the names, as their words

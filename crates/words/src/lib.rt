@@ -1,4 +1,4 @@
-// The index words one by one: nothing else knows where a word stands. The rule: docs/RULE.md, "Index words"; the definitions: specs/.
+// The index words one by one: where each stands, and what it says. The rule: docs/RULE.md, "Index words"; the definitions: specs/.
 ghost use mathlib.Core.Path.{_≡_};
 ghost use Prim.Native.Nat.{_+_, _*_, _^_, _≤_, _<_};
 ghost use lib.ListN.{length, getD};

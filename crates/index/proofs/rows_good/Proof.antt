@@ -5,8 +5,8 @@ use Prim.Native.Nat.{ℕ, _+_, _-_, _≤_, _<_}
 use native.Mathlib.Omega.{arith}
 use lib.ListN.{length, getD}
 use Rattle.words.specs.Words.{rowCount, rowStart, rowWidth}
-use Rattle.index.proofs.Facts.{head-facts}
 use Rattle.words.proofs.Laws.{row-in}
+use Rattle.index.proofs.Facts.{head-facts}
 use Rattle.index.proofs.Keys.{before-key}
 use Rattle.index.proofs.Check.{RowsTo, rows-none, rows-more, rows-all, rows-empty, rows-misplaced, rows-out}
 use Rattle.index.proofs.rows_good.Statement.{statement}

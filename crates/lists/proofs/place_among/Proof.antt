@@ -6,8 +6,8 @@ use borrow.Author.Needs.{needs}
 use lib.ListN.{getD}
 use Rattle.laws.specs.Below.{countBelow}
 use Rattle.words.specs.Words.{rowCount, rowStart, keyOf, rowKey}
-use Rattle.lists.specs.Part.{Span}
 use Rattle.index.proofs.Laws.{good-three}
+use Rattle.lists.specs.Part.{Span}
 use Rattle.lists.proofs.Rows.{row-within, keyBelow, span-wide, span-met, span-other, span-row}
 use Rattle.lists.proofs.Sized.{under-most, under-next, among-found, among-none}
 use Rattle.lists.proofs.place_among.Statement.{statement}

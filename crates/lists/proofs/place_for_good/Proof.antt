@@ -5,8 +5,8 @@ use native.Mathlib.Omega.{arith}
 use borrow.Author.Needs.{needs}
 use lib.ListN.{getD}
 use Rattle.words.specs.Words.{rowStart, keyOf, rowKey}
-use Rattle.lists.specs.Part.{Span}
 use Rattle.index.proofs.Laws.{good-three}
+use Rattle.lists.specs.Part.{Span}
 use Rattle.lists.proofs.Rows.{row-within, span-wide, span-met, span-other, span-after, span-row}
 use Rattle.lists.proofs.place_for_good.Statement.{statement}
 use Rattle.lists.proofs.place_for_good.Tie as tie

@@ -4,8 +4,8 @@ use Prim.Native.Nat.{ℕ, _+_, _*_, _<_}
 use native.Mathlib.Omega.{arith}
 use borrow.Author.Needs.{needs}
 use lib.ListN.{getD}
-use Rattle.lists.specs.Sizes.{rowsUnder}
 use Rattle.index.proofs.Laws.{good-three}
+use Rattle.lists.specs.Sizes.{rowsUnder}
 use Rattle.lists.proofs.Sized.{under-most, under-next, under-all, under-found}
 use Rattle.lists.proofs.rows_of_size.Statement.{statement}
 use Rattle.lists.proofs.rows_of_size.Tie as tie

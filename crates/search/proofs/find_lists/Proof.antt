@@ -6,9 +6,9 @@ use native.Mathlib.Omega.{arith}
 use lib.ListN.{length, getD, set, length-set}
 use Rattle.laws.proofs.Tables.{tableOver, over-nil, over-step}
 use Rattle.laws.proofs.Below.{count-below-most}
+use Rattle.index.proofs.Laws.{good-names-most}
 use Rattle.lists.specs.Lists.{listIn}
 use Rattle.lists.proofs.Spans.{span-count}
-use Rattle.index.proofs.Laws.{good-names-most}
 use Rattle.search.specs.Tables.{startOf, smallKey}
 use Rattle.search.proofs.Work.{list-length}
 use Rattle.search.proofs.find_lists.Statement.{statement}
