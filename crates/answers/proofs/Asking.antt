@@ -20,7 +20,7 @@ use Rattle.frames.specs.declared.QueryRead.{QueryRead}
 use Rattle.frames.specs.Layouts.{isFrame, fieldsIn, nameIn, readOf, bufferOf, acceptedAs, refusedWith}
 use Rattle.frames.specs.Frames.{queryFrame, queryOut}
 use Rattle.frames.proofs.Laws.{read-roomy}
-use Rattle.index.specs.Words.{nameCount, nameId, nameSize}
+use Rattle.words.specs.Words.{nameCount, nameId, nameSize}
 use Rattle.index.specs.Good.{Good}
 use Rattle.index.proofs.Laws.{good-name-within}
 use Rattle.search.specs.Method.{sharedWith, answersOf}

@@ -15,11 +15,10 @@ use Rattle.laws.proofs.Below.{and-both, and-left, and-right, and-false-left, al
 use Rattle.laws.proofs.Found.{all-more, pairs-more}
 use Rattle.laws.proofs.Tests.{test-fails}
 use Rattle.names.specs.Features.{mostFeatures}
-use Rattle.index.specs.Words.{nameCount, rowCount, postingCount, nameId, nameSize, rowPlace, rowLength, postingsStart}
+use Rattle.words.specs.Words.{nameCount, rowCount, postingCount, nameId, nameSize, rowPlace, rowLength, postingsStart, rowKey}
 use Rattle.index.specs.Good.{mostNames, mostPostings, largestId, leastSize, headGood, nameGood, namesGood, rowBefore, placeDue, rowGood, rowsGood}
-use Rattle.index.specs.Lists.{rowKey}
 use Rattle.index.proofs.Facts.{head-facts, names-facts, rows-facts}
-use Rattle.index.proofs.Rows.{key-before}
+use Rattle.index.proofs.Keys.{key-before}
 
 -- ---- the head
 

@@ -16,7 +16,7 @@ use Rattle.laws.specs.Below.{allBelow, sumBelow}
 use Rattle.laws.proofs.Below.{and-left, and-right, all-at, sum-below-up, sum-below-step}
 use Rattle.laws.proofs.Ascending.{chain}
 use Rattle.names.specs.Features.{mostFeatures}
-use Rattle.index.specs.Words.{nameCount, rowCount, postingCount, nameId, nameSize, rowSize, rowFeature, rowPlace, rowLength, posting, listAt, total}
+use Rattle.words.specs.Words.{nameCount, rowCount, postingCount, nameId, nameSize, rowSize, rowFeature, rowPlace, rowLength, posting, listAt, total}
 use Rattle.index.specs.Good.{mostNames, mostPostings, largestId, leastSize, headGood, nameGood, namesGood, rowBefore, placeDue, rowGood, rowsGood, isName, listGood, listsWith, listsGood, goodOf, Good}
 
 -- ---- the head

@@ -1,10 +1,6 @@
-mod Digits
-mod Search
 pub mod Facts
 pub mod Laws
-mod Rows
-mod Sized
-pub mod Spans
+pub mod Keys
 mod Check
 mod Names
 mod Tally

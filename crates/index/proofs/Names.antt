@@ -19,10 +19,9 @@ use Rattle.laws.proofs.Found.{first-is, first-none}
 use Rattle.laws.proofs.Halving.{Falling, Stretch, count-below-place, falling-count, count-index}
 use Rattle.laws.proofs.Order.{le-or-lt}
 use Rattle.laws.proofs.Tests.{same-test}
-use Rattle.index.specs.Words.{nameCount, namesStart, nameWord, nameId, nameSize}
+use Rattle.words.specs.Words.{nameCount, namesStart, nameWord, nameId, nameSize}
 use Rattle.index.specs.Good.{largestId}
-use Rattle.index.specs.Check.{Named}
-use Rattle.index.specs.Lists.{namePlace, nameFor}
+use Rattle.index.specs.Check.{Named, namePlace, nameFor}
 use Rattle.index.proofs.Facts.{head-facts, names-facts}
 
 -- the name words

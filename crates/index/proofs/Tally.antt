@@ -23,10 +23,9 @@ use Rattle.laws.proofs.Found.{first-found, all-more, pairs-more}
 use Rattle.laws.proofs.Order.{eq-or-ne}
 use Rattle.laws.proofs.Tests.{test-fails}
 use Rattle.laws.proofs.Ascending.{rises, rises-apart, member-nowhere}
-use Rattle.index.specs.Words.{namesStart, nameCount, rowCount, postingsStart, nameId, nameSize, rowSize, rowPlace, rowLength, posting, listAt}
+use Rattle.words.specs.Words.{namesStart, nameCount, rowCount, postingsStart, nameId, nameSize, rowSize, rowPlace, rowLength, posting, listAt}
 use Rattle.index.specs.Good.{mostNames, headGood, namesGood, rowsGood, isName, listGood, listsWith, listsGood, goodOf}
-use Rattle.index.specs.Check.{Checked, Tallied}
-use Rattle.index.specs.Lists.{nameFor}
+use Rattle.index.specs.Check.{Checked, Tallied, nameFor}
 use Rattle.index.proofs.Facts.{head-facts, names-facts, rows-facts, list-within, length-list, list-getD}
 
 -- ---- an id is a name of a size where its place is one

@@ -15,7 +15,7 @@ use Rattle.laws.specs.Below.{allBelow, anyBelow, sumBelow, countBelow}
 use Rattle.laws.proofs.Below.{and-both, and-left, and-right, all-ext, sum-below-ext}
 use Rattle.laws.proofs.Found.{any-ext}
 use Rattle.names.specs.Features.{mostFeatures}
-use Rattle.index.specs.Words.{nameCount, rowCount, postingCount, nameWord, nameId, nameSize, rowSize, rowFeature, rowPlace, rowLength, rowStart, postingsStart, posting, listStart, listAt, total}
+use Rattle.words.specs.Words.{nameCount, rowCount, postingCount, nameWord, nameId, nameSize, rowSize, rowFeature, rowPlace, rowLength, rowStart, postingsStart, posting, listStart, listAt, total}
 use Rattle.index.specs.Good.{mostNames, mostPostings, largestId, leastSize, headGood, nameGood, namesGood, rowBefore, placeDue, rowGood, rowsGood, isName, listGood, listsWith, listsGood, goodOf, Good}
 use Rattle.index.proofs.Facts.{Rows, good-facts, list-within}
 

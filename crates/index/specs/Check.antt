@@ -1,13 +1,15 @@
--- What a part of the check leans on, where an earlier part has found it so, and the tally that it keeps.
+-- What a part of the check leans on, where an earlier part has found it so, where it finds a name, and the tally that it keeps.
 -- Assumes nothing.
 use mathlib.Core.Path.{_≡_}
-use mathlib.Core.Bool.{true}
+use mathlib.Core.Bool.{true, _&&_}
 use mathlib.Core.List.{List}
 use Prim.Native.Nat.{ℕ, _<_}
 use lib.ListN.{getD}
+use lib.Dec.{ltb, eqb}
 use Rattle.laws.specs.Lists.{member}
+use Rattle.laws.specs.First.{firstFrom}
 use Rattle.laws.specs.Below.{countBelow}
-use Rattle.index.specs.Words.{nameCount, nameId, listAt}
+use Rattle.words.specs.Words.{nameCount, nameId, nameSize, listAt}
 use Rattle.index.specs.Good.{headGood, namesGood, rowsGood}
 
 -- head and names are good
@@ -19,6 +21,14 @@ pub record Named (w : List ℕ) : Type 0 where
 pub record Checked (w : List ℕ) : Type 0 where
   pub named : Named w
   pub rows : rowsGood w ≡ true
+
+-- how many names have an id below: the place of the id's name, where it is one
+unfoldable pub namePlace : List ℕ → ℕ → ℕ
+namePlace w id = countBelow (nameCount w) (λ (i : ℕ). ltb (nameId w i) id)
+
+-- the place of the name of that id and that size; N where there is none
+unfoldable pub nameFor : List ℕ → ℕ → ℕ → ℕ
+nameFor w size id = firstFrom (λ (i : ℕ). eqb (nameId w i) id && eqb (nameSize w i) size) (nameCount w) 0
 
 -- the tally has, at each name's place, how many of the first r lists hold the name
 unfoldable pub Tallied : List ℕ → ℕ → List ℕ → Type 0

@@ -1,6 +1,2 @@
-pub mod Words
 pub mod Good
-pub mod Lists
 pub mod Check
-pub mod Part
-pub mod Sizes

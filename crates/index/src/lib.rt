@@ -1,192 +1,13 @@
-// The index words: what a good index is, the list of a size and a feature, membership. The rule: docs/RULE.md, "Index words";
-// the definitions: specs/.
+// What a good index is, and the check of it. The rule: docs/RULE.md, "Index words"; the definitions: specs/.
 ghost use mathlib.Core.Path.{_≡_};
-ghost use mathlib.Core.Bool.{true, cond};
-ghost use Prim.Native.Nat.{ℕ, _+_, _-_, _*_, _^_, _≤_, _<_};
+ghost use mathlib.Core.Bool.{true};
+ghost use Prim.Native.Nat.{ℕ, _+_, _-_, _*_, _≤_, _<_};
 ghost use lib.ListN.{length, getD};
-ghost use lib.Dec.{ltb, eqb};
-ghost use Rattle.laws.specs.Lists.{member, Ascending, countOf};
-ghost use Rattle.laws.specs.Below.{allBelow, countBelow};
-ghost use Rattle.index.specs.Words.{nameCount, rowCount, postingCount, namesStart, nameId, nameSize, rowWidth, rowStart, rowSize, rowFeature, rowPlace, rowLength, postingsStart, posting};
-ghost use Rattle.index.specs.Good.{headGood, nameGood, namesGood, rowsGood, listGood, listsGood, goodOf, Good};
-ghost use Rattle.index.specs.Check.{Named, Checked, Tallied};
-ghost use Rattle.index.specs.Part.{Part};
-ghost use Rattle.index.specs.Lists.{rowKey, spanIn, spanFor, namePlace, nameFor};
-ghost use Rattle.index.specs.Sizes.{rowsUnder};
-
-// ---- the layout: nothing else knows where a word stands
-
-fn wide(x: u32) -> usize
-    ensures { λ r. ⌜ (r ≡ x) × (r < 4294967296) ⌝ }
-{
-    x as usize
-}
-
-// N, how many names.
-pub fn name_count(words: &[u32]) -> usize
-    requires { ⌜ namesStart ≤ length (now words) ⌝ }
-    ensures { λ r. ⌜ (r ≡ nameCount (now (words .entry))) × (r < 4294967296) ⌝ }
-{
-    wide(words[0])
-}
-
-// D, how many rows.
-pub fn row_count(words: &[u32]) -> usize
-    requires { ⌜ namesStart ≤ length (now words) ⌝ }
-    ensures { λ r. ⌜ (r ≡ rowCount (now (words .entry))) × (r < 4294967296) ⌝ }
-{
-    wide(words[1])
-}
-
-// P, how many postings.
-pub fn posting_count(words: &[u32]) -> usize
-    requires { ⌜ namesStart ≤ length (now words) ⌝ }
-    ensures { λ r. ⌜ (r ≡ postingCount (now (words .entry))) × (r < 4294967296) ⌝ }
-{
-    wide(words[2])
-}
-
-// The id of name i.
-pub fn name_id(words: &[u32], i: usize) -> u32
-    requires { ⌜ namesStart + i < length (now words) ⌝ }
-    ensures { λ r. ⌜ r ≡ nameId (now (words .entry)) i ⌝ }
-{
-    words[3 + i] / 256
-}
-
-// The size of name i.
-pub fn name_size(words: &[u32], i: usize) -> u32
-    requires { ⌜ namesStart + i < length (now words) ⌝ }
-    ensures { λ r. ⌜ r ≡ nameSize (now (words .entry)) i ⌝ }
-{
-    words[3 + i] % 256
-}
-
-// Where row r starts; with D for r, where the postings start.
-fn row_start(words: &[u32], r: usize) -> usize
-    requires { ⌜ (namesStart ≤ length (now words)) × (4 * r < 2 ^ 63) ⌝ }
-    ensures { λ v. ⌜ (v ≡ rowStart (now (words .entry)) r) × (v ≤ 4 * r + 4294967298) ⌝ }
-{
-    3 + wide(words[0]) + 4 * r
-}
-
-// Word k of row r.
-fn row_word(words: &[u32], r: usize, k: usize) -> u32
-    requires { ⌜ (k < rowWidth) × (rowStart (now words) r + rowWidth ≤ length (now words)) ⌝ }
-    ensures { λ v. ⌜ v ≡ getD (now (words .entry)) (rowStart (now (words .entry)) r + k) 0 ⌝ }
-{
-    words[row_start(words, r) + k]
-}
-
-// The size of row r.
-pub fn row_size(words: &[u32], r: usize) -> u32
-    requires { ⌜ rowStart (now words) r + rowWidth ≤ length (now words) ⌝ }
-    ensures { λ v. ⌜ v ≡ rowSize (now (words .entry)) r ⌝ }
-{
-    row_word(words, r, 0)
-}
-
-// The feature of row r.
-pub fn row_feature(words: &[u32], r: usize) -> u64
-    requires { ⌜ rowStart (now words) r + rowWidth ≤ length (now words) ⌝ }
-    ensures { λ v. ⌜ (v ≡ rowFeature (now (words .entry)) r) × (v < 4294967296) ⌝ }
-{
-    row_word(words, r, 1) as u64
-}
-
-// Where row r's list starts among the postings.
-pub fn row_place(words: &[u32], r: usize) -> usize
-    requires { ⌜ rowStart (now words) r + rowWidth ≤ length (now words) ⌝ }
-    ensures { λ v. ⌜ (v ≡ rowPlace (now (words .entry)) r) × (v < 4294967296) ⌝ }
-{
-    wide(row_word(words, r, 2))
-}
-
-// How many ids row r's list has.
-pub fn row_length(words: &[u32], r: usize) -> usize
-    requires { ⌜ rowStart (now words) r + rowWidth ≤ length (now words) ⌝ }
-    ensures { λ v. ⌜ (v ≡ rowLength (now (words .entry)) r) × (v < 4294967296) ⌝ }
-{
-    wide(row_word(words, r, 3))
-}
-
-// The size and the feature of row r as one number.
-fn row_key(words: &[u32], r: usize) -> u64
-    requires { ⌜ rowStart (now words) r + rowWidth ≤ length (now words) ⌝ }
-    ensures { λ v. ⌜ v ≡ rowKey (now (words .entry)) r ⌝ }
-{
-    row_size(words, r) as u64 * 4294967296 + row_feature(words, r)
-}
-
-// Posting k of all.
-pub fn posting(words: &[u32], k: usize) -> u32
-    requires { ⌜ (namesStart ≤ length (now words)) × (postingsStart (now words) + k < length (now words)) ⌝ }
-    ensures { λ v. ⌜ v ≡ posting (now (words .entry)) k ⌝ }
-{
-    words[row_start(words, row_count(words)) + k]
-}
-
-// ---- halving searches
-
-// 2 to the power of k.
-fn power(k: u32) -> usize
-    requires { ⌜ k < 64 ⌝ }
-    ensures { λ r. ⌜ r ≡ 2 ^ k ⌝ }
-{
-    1 << k
-}
-
-// 2 to the power of k where b holds, and 0 otherwise: by a shift, so that a search has no jump to guess.
-fn power_if(b: bool, k: u32) -> usize
-    requires { ⌜ k < 64 ⌝ }
-    ensures { λ r. ⌜ r ≡ cond b (2 ^ k) 0 ⌝ }
-{
-    (b as usize) << k
-}
-
-// The place of the highest digit of a number above 0, counted from 0.
-fn highest(n: usize) -> u32
-    requires { ⌜ 0 < n ⌝ }
-    ensures { λ r. ⌜ (r < 64) × (2 ^ r ≤ n) × (n < 2 * 2 ^ r) ⌝ }
-{
-    63 - u64::leading_zeros(n as u64)
-}
-
-// How many ids of an ascending list are below x: the place of x where it is there, and the place at which it would have to be put in.
-pub fn place_in(list: &[u32], x: u32) -> usize
-    requires { ⌜ Ascending (now list) ⌝ }
-    ensures { λ r. ⌜ r ≡ countOf (λ (y : ℕ). ltb y x) (now (list .entry)) ⌝ }
-{
-    let n = list.len();
-    let mut k = highest(n + 1);
-    let rest = n + 1 - power(k);
-    let mut base: usize = 0;
-    if 0 < rest {
-        if list[rest - 1] < x {
-            base = rest;
-        }
-    }
-    while 0 < k {
-        k -= 1;
-        let at = base + power(k) - 1;
-        base += power_if(list[at] < x, k);
-    }
-    base
-}
-
-// Whether an ascending list holds the id.
-pub fn holds(list: &[u32], id: u32) -> bool
-    requires { ⌜ Ascending (now list) ⌝ }
-    ensures { λ r. ⌜ r ≡ member id (now (list .entry)) ⌝ }
-{
-    let at = place_in(list, id);
-    if at < list.len() {
-        return list[at] == id;
-    }
-    false
-}
-
-// ---- the check
+ghost use lib.Dec.{eqb};
+ghost use Rattle.laws.specs.Below.{allBelow};
+ghost use Rattle.words.specs.Words.{nameCount, rowCount, namesStart, nameSize};
+ghost use Rattle.index.specs.Good.{headGood, nameGood, namesGood, rowsGood, listGood, listsGood, goodOf};
+ghost use Rattle.index.specs.Check.{Named, Checked, Tallied, namePlace, nameFor};
 
 // The most names, the most postings, the largest id, the least and the largest size of a good index.
 pub const MOST_NAMES: usize = 256;
@@ -206,24 +27,24 @@ fn head_good(words: &[u32]) -> bool
     if n < 3 {
         return false;
     }
-    if MOST_NAMES < name_count(words) {
+    if MOST_NAMES < words::name_count(words) {
         return false;
     }
-    let postings = posting_count(words);
+    let postings = words::posting_count(words);
     if MOST_POSTINGS < postings {
         return false;
     }
-    row_start(words, row_count(words)) + postings <= n
+    words::row_start(words, words::row_count(words)) + postings <= n
 }
 
 fn name_good(words: &[u32], i: usize) -> bool
     requires { ⌜ namesStart + i < length (now words) ⌝ }
     ensures { λ r. ⌜ r ≡ nameGood (now (words .entry)) i ⌝ }
 {
-    if LARGEST_ID < name_id(words, i) {
+    if LARGEST_ID < words::name_id(words, i) {
         return false;
     }
-    let size = name_size(words, i);
+    let size = words::name_size(words, i);
     if size < LEAST_SIZE {
         return false;
     }
@@ -234,14 +55,14 @@ fn names_good(words: &[u32]) -> bool
     requires { ⌜ headGood (now words) ≡ true ⌝ }
     ensures { λ r. ⌜ r ≡ namesGood (now (words .entry)) ⌝ }
 {
-    let names = name_count(words);
+    let names = words::name_count(words);
     let mut i: usize = 0;
     while i < names {
         if !name_good(words, i) {
             return false;
         }
         if 0 < i {
-            if name_id(words, i) <= name_id(words, i - 1) {
+            if words::name_id(words, i) <= words::name_id(words, i - 1) {
                 return false;
             }
         }
@@ -254,26 +75,26 @@ fn rows_good(words: &[u32]) -> bool
     requires { ⌜ headGood (now words) ≡ true ⌝ }
     ensures { λ r. ⌜ r ≡ rowsGood (now (words .entry)) ⌝ }
 {
-    let rows = row_count(words);
+    let rows = words::row_count(words);
     let mut due: usize = 0;
     let mut r: usize = 0;
     while r < rows {
-        let count = row_length(words, r);
+        let count = words::row_length(words, r);
         if count < 1 {
             return false;
         }
-        if row_place(words, r) != due {
+        if words::row_place(words, r) != due {
             return false;
         }
         if 0 < r {
-            if row_key(words, r) <= row_key(words, r - 1) {
+            if words::row_key(words, r) <= words::row_key(words, r - 1) {
                 return false;
             }
         }
         due += count;
         r += 1;
     }
-    due == posting_count(words)
+    due == words::posting_count(words)
 }
 
 // How many names have an id below: the place of the id's name, where it is one.
@@ -281,12 +102,12 @@ pub fn name_place(words: &[u32], id: u32) -> usize
     requires { ⌜ Named (now words) ⌝ }
     ensures { λ r. ⌜ r ≡ namePlace (now (words .entry)) id ⌝ }
 {
-    let names = name_count(words);
+    let names = words::name_count(words);
     if LARGEST_ID < id {
         return names;
     }
     let end = 3 + names;
-    place_in(&words[3..end], id * 256)
+    halving::place_in(&words[3..end], id * 256)
 }
 
 // The place of the name of that id and that size; N where there is none.
@@ -294,11 +115,11 @@ fn name_for(words: &[u32], size: u32, id: u32) -> usize
     requires { ⌜ Named (now words) ⌝ }
     ensures { λ r. ⌜ r ≡ nameFor (now (words .entry)) size id ⌝ }
 {
-    let names = name_count(words);
+    let names = words::name_count(words);
     let at = name_place(words, id);
     if at < names {
-        if name_id(words, at) == id {
-            if name_size(words, at) == size {
+        if words::name_id(words, at) == id {
+            if words::name_size(words, at) == size {
                 return at;
             }
         }
@@ -312,15 +133,15 @@ fn list_good(words: &[u32], r: usize, tally: &mut [u32]) -> bool
     ensures { λ v. ⌜ v ≡ listGood (now (words .entry)) r ⌝ }
     ensures { λ v. ⌜ (v ≡ true → Tallied (now (words .entry)) (r + 1) (now (tally .exit))) ⌝ }
 {
-    let names = name_count(words);
-    let start = row_place(words, r);
-    let count = row_length(words, r);
-    let size = row_size(words, r);
+    let names = words::name_count(words);
+    let start = words::row_place(words, r);
+    let count = words::row_length(words, r);
+    let size = words::row_size(words, r);
     let mut k: usize = 0;
     while k < count {
-        let id = posting(words, start + k);
+        let id = words::posting(words, start + k);
         if 0 < k {
-            if id <= posting(words, start + (k - 1)) {
+            if id <= words::posting(words, start + (k - 1)) {
                 return false;
             }
         }
@@ -340,7 +161,7 @@ fn rows_tallied(words: &[u32], tally: &mut [u32]) -> bool
     ensures { λ v. ⌜ v ≡ allBelow (rowCount (now (words .entry))) (listGood (now (words .entry))) ⌝ }
     ensures { λ v. ⌜ (v ≡ true → Tallied (now (words .entry)) (rowCount (now (words .entry))) (now (tally .exit))) ⌝ }
 {
-    let rows = row_count(words);
+    let rows = words::row_count(words);
     let mut row: usize = 0;
     while row < rows {
         if !list_good(words, row, tally) {
@@ -356,10 +177,10 @@ fn tally_good(words: &[u32], tally: &[u32]) -> bool
     requires { ⌜ (headGood (now words) ≡ true) × (nameCount (now words) ≤ length (now tally)) ⌝ }
     ensures { λ v. ⌜ v ≡ allBelow (nameCount (now (words .entry))) (λ (i : ℕ). eqb (getD (now (tally .entry)) i 0) (nameSize (now (words .entry)) i)) ⌝ }
 {
-    let names = name_count(words);
+    let names = words::name_count(words);
     let mut at: usize = 0;
     while at < names {
-        if tally[at] != name_size(words, at) {
+        if tally[at] != words::name_size(words, at) {
             return false;
         }
         at += 1;
@@ -392,120 +213,4 @@ pub fn good(words: &[u32]) -> bool
         return false;
     }
     lists_good(words)
-}
-
-// ---- the list of a size and a feature
-
-// The first row from `from` on, of those before `to`, whose size and feature as one number is not below the key; `to` where all are.
-pub fn rows_below(words: &[u32], from: usize, to: usize, key: u64) -> usize
-    requires { ⌜ Good (now words) × (from ≤ to) × (to ≤ rowCount (now words)) ⌝ }
-    ensures { λ r. ⌜ r ≡ from + countBelow (to - from) (λ (i : ℕ). ltb (rowKey (now (words .entry)) (from + i)) key) ⌝ }
-{
-    let n = to - from;
-    let mut k = highest(n + 1);
-    let rest = n + 1 - power(k);
-    let mut base: usize = 0;
-    if 0 < rest {
-        if row_key(words, from + (rest - 1)) < key {
-            base = rest;
-        }
-    }
-    while 0 < k {
-        k -= 1;
-        let at = base + power(k) - 1;
-        base += power_if(row_key(words, from + at) < key, k);
-    }
-    from + base
-}
-
-// Where a list lies among the words.
-pub struct Place {
-    pub start: usize,
-    pub count: usize,
-}
-
-// Where the list of a size and a feature of a good index lies; no words at 0 where there is no such row.
-pub fn place_for_good(words: &[u32], size: u32, feature: u64) -> Place
-    requires { ⌜ Good (now words) ⌝ }
-    ensures { λ p. ⌜ (p .start ≡ spanIn (now (words .entry)) size feature .start) × (p .count ≡ spanIn (now (words .entry)) size feature .count) ⌝ }
-{
-    if 4294967295 < feature {
-        return Place { start: 0, count: 0 };
-    }
-    let rows = row_count(words);
-    let key = size as u64 * 4294967296 + feature;
-    let r = rows_below(words, 0, rows, key);
-    if r < rows {
-        if row_key(words, r) == key {
-            let start = row_start(words, rows) + row_place(words, r);
-            return Place {
-                start,
-                count: row_length(words, r),
-            };
-        }
-    }
-    Place { start: 0, count: 0 }
-}
-
-// The list of a size and a feature of a good index, as that part of the words; the empty part where there is no such row.
-pub fn list_for_good(words: &[u32], size: u32, feature: u64) -> &[u32]
-    requires { ⌜ Good (now words) ⌝ }
-    ensures { λ l. ⌜ Part (words .entry) l (spanIn (now (words .entry)) size feature) ⌝ }
-{
-    let place = place_for_good(words, size, feature);
-    let start = place.start;
-    let end = start + place.count;
-    &words[start..end]
-}
-
-// The same of any words: the empty part too where the index isn't good.
-pub fn list_for(words: &[u32], size: u32, feature: u64) -> &[u32]
-    ensures { λ l. ⌜ Part (words .entry) l (spanFor (now (words .entry)) size feature) ⌝ }
-{
-    if good(words) {
-        return list_for_good(words, size, feature);
-    }
-    &words[0..0]
-}
-
-// ---- the lists of one size
-
-// The rows of a size: those from `from` on that stand before `to`.
-pub struct SizeRows {
-    pub from: usize,
-    pub to: usize,
-}
-
-// Where the rows of a size of a good index stand.
-pub fn rows_of_size(words: &[u32], size: u32) -> SizeRows
-    requires { ⌜ Good (now words) ⌝ }
-    ensures { λ r. ⌜ (r .from ≡ rowsUnder (now (words .entry)) size) × (r .to ≡ rowsUnder (now (words .entry)) (size + 1)) ⌝ }
-{
-    let all = row_count(words);
-    let from = rows_below(words, 0, all, size as u64 * 4294967296);
-    if size == 4294967295 {
-        return SizeRows { from, to: all };
-    }
-    let to = rows_below(words, from, all, (size as u64 + 1) * 4294967296);
-    SizeRows { from, to }
-}
-
-// What place_for_good finds, sought among the rows of the size alone.
-pub fn place_among(words: &[u32], from: usize, to: usize, size: u32, feature: u64) -> Place
-    requires { ⌜ Good (now words) × (from ≡ rowsUnder (now words) size) × (to ≡ rowsUnder (now words) (size + 1)) ⌝ }
-    ensures { λ p. ⌜ (p .start ≡ spanIn (now (words .entry)) size feature .start) × (p .count ≡ spanIn (now (words .entry)) size feature .count) ⌝ }
-{
-    if 0xFFFFFFFF < feature {
-        return Place { start: 0, count: 0 };
-    }
-    let key = size as u64 * 4294967296 + feature;
-    let row = rows_below(words, from, to, key);
-    if row < to {
-        if row_key(words, row) == key {
-            let start = row_start(words, row_count(words)) + row_place(words, row);
-            let count = row_length(words, row);
-            return Place { start, count };
-        }
-    }
-    Place { start: 0, count: 0 }
 }

@@ -1,4 +1,4 @@
--- What a search upward that came to something found; tests below a bound that agree, and that hold of one number more. Cited by `index`.
+-- What a search upward that came to something found; tests below a bound that agree, and that hold of one number more. Cited by `index` and `lists`.
 -- Assumes nothing.
 use mathlib.Core.Path.{_≡_, refl, sym, ap₂, _∙_}
 use mathlib.Core.Logic.{⊎-elim}

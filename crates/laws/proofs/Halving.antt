@@ -1,5 +1,5 @@
 -- A halving search: of a test that passes up to a place and fails from there on, the place. The code keeps a stretch in which the place lies, and
--- asks the test in its middle. Cited by the searches of `index`.
+-- asks the test in its middle. Cited by the searches of `halving`, `index` and `lists`.
 -- Assumes nothing.
 use mathlib.Core.Path.{_≡_, refl, sym, ap, subst, subst₂, _∙_}
 use mathlib.Core.Logic.{_⊎_, inl, inr, ⊎-elim}

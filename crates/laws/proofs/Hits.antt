@@ -1,5 +1,5 @@
 -- Counting a list by an enumeration of what it holds: where a sequence has no value twice and meets every element of a list without repeats,
--- it meets as many as the list is long. Cited by `index`.
+-- it meets as many as the list is long. Cited by `lists`.
 -- Assumes nothing.
 use mathlib.Core.Path.{_≡_, refl, sym, ap, ap₂, _∙_}
 use mathlib.Core.Logic.{⊎-elim}

@@ -1,4 +1,4 @@
--- Laws of the members of a list, and of a statement of each of them. Cited by `index` and `register`.
+-- Laws of the members of a list, and of a statement of each of them. Cited by `sorting`, `postings` and `search`.
 -- Assumes nothing.
 use mathlib.Core.Path.{_≡_, refl, sym, ap, _∙_}
 use mathlib.Core.Logic.{_⊎_, inl, inr, ⊎-elim}

@@ -23,14 +23,15 @@ use Rattle.laws.proofs.Images.{sort-map, count-tabulate, tabulate-of}
 use Rattle.names.specs.Names.{judgeOf}
 use Rattle.names.specs.Features.{characters, mostFeatures, featuresOf}
 use Rattle.names.proofs.Laws.{size-within, distinct-features, feature-fits}
-use Rattle.index.specs.Words.{nameCount, rowCount, postingCount, nameWord, nameId, nameSize, rowSize, rowFeature, rowPlace, rowLength, rowWidth, namesStart, listAt, total}
+use Rattle.words.specs.Words.{nameCount, rowCount, postingCount, nameWord, nameId, nameSize, rowSize, rowFeature, rowPlace, rowLength, rowWidth, namesStart, listAt, total, featureSpan}
 use Rattle.index.specs.Good.{mostNames, mostPostings, largestId, rowBefore, listsWith, Good}
-use Rattle.index.specs.Lists.{listIn, featuresIn, featureSpan}
+use Rattle.lists.specs.Lists.{listIn, featuresIn}
 use Rattle.postings.specs.Built.{Entry, noEntry, wordOf, idSpan, tripleOf, triplesOf, allTriples, Row, noRow, runsOf, listsOf, triplesFrom, RowFit, RowsFit, rowWords, wordsFrom, rowsOf, wordsOf, EntryFit, Fit}
 use Rattle.postings.specs.Contents.{namesIn, rowIn, rowsIn, entryIn, entriesIn, Narrow}
 use Rattle.postings.specs.Plain.{Named, Plain}
 use Rattle.index.proofs.Facts.{Before, row-before}
-use Rattle.index.proofs.Laws.{good-ids-apart, features-member}
+use Rattle.index.proofs.Laws.{good-ids-apart}
+use Rattle.lists.proofs.Laws.{features-member}
 use Rattle.postings.proofs.Plain.{plain-good}
 use Rattle.postings.proofs.Read.{read-name-count, read-row-count, read-posting-count, read-name, read-size, read-feature, read-place, read-length, read-list, read-total, read-sum, read-narrow, read-names, read-rows}
 use Rattle.postings.proofs.Runs.{length-runs, triples-runs, triples-place, triples-member, runs-fit, count-triples}

@@ -9,9 +9,9 @@ use Rattle.laws.specs.First.{firstFrom}
 use Rattle.laws.specs.Sort.{insert, sortOf}
 use Rattle.names.specs.Names.{judgeOf}
 use Rattle.names.specs.Features.{padded, joined, gramAt, timesIn, numberAt, numbered, featuresBy, featuresOf}
-use Rattle.index.specs.Words.{nameWord, nameId, nameSize, rowSize, rowFeature, rowPlace, rowLength, posting, listAt}
+use Rattle.words.specs.Words.{nameWord, nameId, nameSize, rowSize, rowFeature, rowPlace, rowLength, posting, listAt}
 use Rattle.index.specs.Good.{headGood, nameGood, namesGood, rowBefore, placeDue, rowGood, rowsGood, isName, listGood, listsWith, listsGood, goodOf}
-use Rattle.index.specs.Lists.{rowIs, rowFor, listIn}
+use Rattle.lists.specs.Lists.{rowIs, rowFor, listIn}
 use Rattle.postings.specs.Built.{Entry, triplesOf, allTriples, joinRow, runsOf, listsOf, rowWords, wordsFrom, rowsOf, wordsOf}
 
 abbrev three : List Entry

@@ -1,5 +1,5 @@
 -- The rows of a good index and what they say of its names: a row is found by its size and feature, and a name stands for the features
--- in ascending order. The laws of index say the rest of what a name stands for.
+-- in ascending order. The laws of `lists` say the rest of what a name stands for.
 -- Assumes nothing.
 use mathlib.Core.Path.{_≡_, refl, sym, ap, _∙_}
 use mathlib.Core.Logic.{inl, inr}
@@ -10,11 +10,12 @@ use native.Mathlib.Omega.{arith}
 use Rattle.laws.specs.Lists.{member, Ascending}
 use Rattle.laws.proofs.Sort.{ascending-nil, ascending-snoc}
 use Rattle.laws.proofs.Images.{ascending-tabulate, map-tabulate, each-tabulate}
-use Rattle.index.specs.Words.{rowCount, rowSize, rowFeature, listAt}
+use Rattle.words.specs.Words.{rowCount, rowSize, rowFeature, listAt, featureSpan, keyOf}
 use Rattle.index.specs.Good.{Good}
-use Rattle.index.specs.Lists.{rowFor, listIn, featuresAmong, featuresIn, featureSpan, keyOf}
 use Rattle.index.proofs.Facts.{Before, good-facts}
-use Rattle.index.proofs.Laws.{row-found, row-for, list-row, list-holder, row-named, among-at, among-of, holder-size}
+use Rattle.index.proofs.Laws.{row-named}
+use Rattle.lists.specs.Lists.{rowFor, listIn, featuresAmong, featuresIn}
+use Rattle.lists.proofs.Laws.{row-found, row-for, list-row, list-holder, among-at, among-of, holder-size}
 use Rattle.postings.specs.Built.{Row, RowFit, RowsFit}
 use Rattle.postings.specs.Contents.{rowIn, rowsIn, Narrow}
 use Rattle.postings.specs.Plain.{Plain}

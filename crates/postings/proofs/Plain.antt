@@ -14,7 +14,7 @@ use Rattle.laws.proofs.Below.{and-both, all-of, any-of}
 use Rattle.laws.proofs.Members.{member-at}
 use Rattle.laws.proofs.Sort.{ascending-step}
 use Rattle.names.specs.Features.{mostFeatures}
-use Rattle.index.specs.Words.{nameCount, rowCount, postingCount, nameId, nameSize, rowSize, rowPlace, rowLength, posting, listAt, total}
+use Rattle.words.specs.Words.{nameCount, rowCount, postingCount, nameId, nameSize, rowSize, rowPlace, rowLength, posting, listAt, total}
 use Rattle.index.specs.Good.{mostNames, mostPostings, largestId, leastSize, headGood, nameGood, namesGood, rowBefore, placeDue, rowGood, rowsGood, isName, listGood, listsWith, listsGood, goodOf, Good}
 use Rattle.index.proofs.Facts.{row-before, list-inside, list-long, place-sum, list-getD, good-facts}
 use Rattle.index.proofs.Laws.{row-ascending, row-named}

@@ -13,8 +13,7 @@ use Rattle.laws.specs.Lists.{tabulate}
 use Rattle.laws.specs.Below.{sumBelow}
 use Rattle.laws.proofs.Lists.{length-tabulate}
 use Rattle.laws.proofs.Images.{tabulate-of, tabulate-part}
-use Rattle.index.specs.Words.{nameCount, rowCount, postingCount, namesStart, nameWord, rowsStart, rowStart, rowWidth, rowSize, rowFeature, rowPlace, rowLength, postingsStart, listAt, total}
-use Rattle.index.specs.Lists.{featureSpan}
+use Rattle.words.specs.Words.{nameCount, rowCount, postingCount, namesStart, nameWord, rowsStart, rowStart, rowWidth, rowSize, rowFeature, rowPlace, rowLength, postingsStart, listAt, total, featureSpan}
 use Rattle.postings.specs.Built.{Row, noRow, oneRow, longerRow, idSpan, listsOf, rowWords, wordsFrom}
 use Rattle.postings.specs.Contents.{namesIn, rowIn, rowsIn, Narrow}
 use Rattle.postings.specs.Plain.{Plain}

@@ -15,13 +15,13 @@ use Rattle.laws.proofs.Lists.{length-tabulate, getD-tabulate, tabulate-ext}
 use Rattle.laws.proofs.Members.{bool-same}
 use Rattle.laws.proofs.Sort.{ascending-distinct, ascending-unique, ascending-sort, member-sort, length-sort, sort-same}
 use Rattle.laws.proofs.Images.{ascending-tabulate, map-tabulate, each-tabulate}
-use Rattle.index.specs.Words.{nameCount, rowCount, nameWord, nameId, nameSize, rowSize, rowFeature, listAt, total}
+use Rattle.words.specs.Words.{nameCount, rowCount, nameWord, nameId, nameSize, rowSize, rowFeature, listAt, total}
 use Rattle.index.specs.Good.{Good}
-use Rattle.index.specs.Lists.{featuresIn}
+use Rattle.lists.specs.Lists.{featuresIn}
 use Rattle.postings.specs.Built.{Entry, noEntry, wordOf, idSpan, tripleOf, allTriples, Row, noRow, triplesFrom, runsOf, wordsFrom, rowsOf, wordsOf, EntryFit, Fit}
 use Rattle.postings.specs.Contents.{namesIn, rowIn, rowsIn, entryIn, entriesIn, Narrow}
 use Rattle.postings.specs.Plain.{Plain}
-use Rattle.index.proofs.Laws.{holder-size, features-length}
+use Rattle.lists.proofs.Laws.{holder-size, features-length}
 use Rattle.postings.proofs.Plain.{good-plain}
 use Rattle.postings.proofs.Read.{words-in}
 use Rattle.postings.proofs.Runs.{runs-unique, triples-place, triples-member, triples-ascending}

@@ -12,8 +12,8 @@ use Rattle.laws.specs.Lists.{member, Distinct, Ascending}
 use Rattle.laws.specs.Each.{Each}
 use Rattle.laws.specs.Sort.{sortOf}
 use Rattle.names.specs.Features.{mostFeatures}
+use Rattle.words.specs.Words.{featureSpan, keyOf}
 use Rattle.index.specs.Good.{mostNames, largestId, leastSize}
-use Rattle.index.specs.Lists.{featureSpan, keyOf}
 
 -- ---- a name with its features
 

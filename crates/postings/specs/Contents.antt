@@ -4,8 +4,8 @@
 use mathlib.Core.List.{List}
 use Prim.Native.Nat.{ℕ, _<_}
 use Rattle.laws.specs.Lists.{tabulate}
-use Rattle.index.specs.Words.{nameCount, rowCount, nameWord, nameId, rowSize, rowFeature, listAt}
-use Rattle.index.specs.Lists.{featuresIn, featureSpan, keyOf}
+use Rattle.words.specs.Words.{nameCount, rowCount, nameWord, nameId, rowSize, rowFeature, listAt, featureSpan, keyOf}
+use Rattle.lists.specs.Lists.{featuresIn}
 use Rattle.postings.specs.Built.{Entry, Row}
 
 -- the name words, in order

@@ -8,7 +8,7 @@ use lib.ListN.{length}
 use Rattle.laws.specs.Lists.{member, Ascending}
 use Rattle.laws.specs.Below.{sumBelow}
 use Rattle.names.specs.Features.{mostFeatures}
-use Rattle.index.specs.Words.{nameCount, rowCount, postingCount, nameId, nameSize, rowSize, rowPlace, rowLength, listAt, total}
+use Rattle.words.specs.Words.{nameCount, rowCount, postingCount, nameId, nameSize, rowSize, rowPlace, rowLength, listAt, total}
 use Rattle.index.specs.Good.{mostNames, mostPostings, largestId, leastSize, rowBefore, listsWith}
 
 -- a name of that id and size stands among the names

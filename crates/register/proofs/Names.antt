@@ -11,8 +11,8 @@ use Rattle.laws.specs.Lists.{member}
 use Rattle.names.specs.Names.{judgeOf}
 use Rattle.names.specs.Features.{featuresOf}
 use Rattle.names.proofs.Laws.{length-features}
-use Rattle.index.specs.Words.{nameCount, nameId, nameSize}
-use Rattle.index.specs.Lists.{listIn, featuresIn}
+use Rattle.words.specs.Words.{nameCount, nameId, nameSize}
+use Rattle.lists.specs.Lists.{listIn, featuresIn}
 use Rattle.postings.specs.Built.{Entry, noEntry, Fit, wordsOf}
 use Rattle.postings.proofs.Built.{built-name-count, built-id, built-size, built-list, built-listed, built-features}
 use Rattle.register.specs.Lines.{linesOf, nthLine}

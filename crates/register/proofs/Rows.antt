@@ -9,8 +9,7 @@ use borrow.Author.Tests.{not-true, not-false, eqb-true, eqb-false}
 use lib.ListN.{length, getD, take, drop, set, length-append}
 use lib.Seq.{length-take-le, take-all, take-at, take-set-lt, getD-take, getD-append-add, sets, sets-eq}
 use lib.Dec.{eqb}
-use Rattle.index.specs.Words.{rowWidth}
-use Rattle.index.specs.Lists.{featureSpan}
+use Rattle.words.specs.Words.{rowWidth, featureSpan}
 use Rattle.postings.specs.Built.{Row, oneRow, longerRow, idSpan, listsOf, runsOf, rowWords}
 use Rattle.postings.proofs.Runs.{length-runs}
 use Rattle.postings.proofs.Pass.{pass-new, pass-more}

@@ -6,7 +6,7 @@ use mathlib.Core.List.{List, map}
 use Prim.Native.Nat.{ℕ, zero, suc, _*_, _/_, _≤_}
 use lib.ListN.{length, getD, take, replicate}
 use lib.Dec.{eqb, leb}
-use Rattle.index.specs.Words.{rowWidth}
+use Rattle.words.specs.Words.{rowWidth}
 use Rattle.postings.specs.Built.{Entry, Row, Fit, wordOf, idSpan, allTriples, runsOf, rowWords, wordsFrom}
 use Rattle.register.specs.Build.{judgeLine, idIn, nameOf, takenOf, entriesOf, blank, padTo}
 

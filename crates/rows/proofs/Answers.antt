@@ -17,7 +17,7 @@ use Rattle.laws.proofs.Order.{le-or-lt}
 use Rattle.laws.proofs.Images.{tabulate-of}
 use Rattle.names.specs.Features.{featuresOf}
 use Rattle.likeness.specs.Terms.{lowestTerms}
-use Rattle.index.specs.Words.{nameCount, nameId, nameSize}
+use Rattle.words.specs.Words.{nameCount, nameId, nameSize}
 use Rattle.index.specs.Good.{mostNames, goodOf}
 use Rattle.index.proofs.Laws.{good-names-most}
 use Rattle.search.specs.Method.{sharedWith, touchesOf, listed, answersBelow, answersOf}

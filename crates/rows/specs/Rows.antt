@@ -6,7 +6,7 @@ use Prim.Native.Nat.{ℕ, _≤_}
 use lib.ListN.{length, getD, drop}
 use Rattle.laws.specs.Lists.{tabulate}
 use Rattle.names.specs.Features.{featuresOf}
-use Rattle.index.specs.Words.{nameId, nameSize}
+use Rattle.words.specs.Words.{nameId, nameSize}
 use Rattle.index.specs.Good.{mostNames}
 use Rattle.search.specs.Method.{sharedWith, answersOf}
 use Rattle.search.specs.Answers.{rowsIn, searchOf, givenBy}

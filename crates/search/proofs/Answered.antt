@@ -13,7 +13,7 @@ use Rattle.names.specs.Names.{judgeOf}
 use Rattle.names.specs.Features.{featuresOf}
 use Rattle.likeness.specs.Measures.{goodMeasure, goodThreshold}
 use Rattle.likeness.specs.Terms.{lowestTerms}
-use Rattle.index.specs.Words.{nameCount, namesStart}
+use Rattle.words.specs.Words.{nameCount, namesStart}
 use Rattle.index.specs.Good.{goodOf}
 use Rattle.search.specs.Method.{touchesOf, answersOf}
 use Rattle.search.specs.Tables.{nameWords}

@@ -18,7 +18,7 @@ use Rattle.laws.proofs.Tests.{and-parts, test-fails}
 use Rattle.laws.proofs.Order.{le-or-lt, eq-or-ne}
 use Rattle.likeness.specs.Sizes.{isSearched}
 use Rattle.likeness.specs.Least.{leastCount}
-use Rattle.index.specs.Words.{nameCount, nameId, nameSize}
+use Rattle.words.specs.Words.{nameCount, nameId, nameSize}
 use Rattle.index.specs.Good.{Good, mostNames}
 use Rattle.index.proofs.Laws.{good-names-most}
 use Rattle.search.specs.Method.{namesOf, listsFor, heldBy, signatures, remains, laterCount, touchesAt, sharedWith, sizesEnd, touchesOfSize, touchesOf, listed}

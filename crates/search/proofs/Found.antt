@@ -16,7 +16,7 @@ use Rattle.names.specs.Features.{featuresOf}
 use Rattle.likeness.specs.Measures.{goodMeasure, goodThreshold}
 use Rattle.likeness.specs.Terms.{lowestTerms}
 use Rattle.laws.specs.Lists.{member}
-use Rattle.index.specs.Words.{nameId, nameSize}
+use Rattle.words.specs.Words.{nameId, nameSize}
 use Rattle.index.specs.Good.{goodOf, Good}
 use Rattle.search.specs.Method.{listsFor, heldBy, sharedWith, touchesOf, answersOf}
 use Rattle.search.specs.Answers.{numberIn, rowsIn, thresholdP, thresholdQ, questionOf, refusalOf, searchGoodOf, searchOf, givenBy}

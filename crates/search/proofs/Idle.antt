@@ -21,9 +21,9 @@ use Rattle.laws.proofs.Halving.{Falling, falling-count, count-index}
 use Rattle.laws.proofs.Order.{le-or-lt}
 use Rattle.laws.proofs.Sort.{count-sort}
 use Rattle.laws.proofs.Tables.{tabulate-self}
-use Rattle.index.specs.Words.{nameCount, nameId, nameSize}
+use Rattle.words.specs.Words.{nameCount, nameId, nameSize}
 use Rattle.index.specs.Good.{mostNames}
-use Rattle.index.specs.Lists.{listIn}
+use Rattle.lists.specs.Lists.{listIn}
 use Rattle.search.specs.Method.{listsFor, heldBy, signatures, signaturePostings, remains, remaining, laterCount, touchesAt}
 use Rattle.search.specs.Tables.{idAt, nameWords, smallKey, filledOf, remainsAt, remainTable, kept, Asked}
 use Rattle.search.proofs.Laws.{length-lists}

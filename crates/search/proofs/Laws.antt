@@ -22,10 +22,11 @@ use Rattle.likeness.specs.Sizes.{isSearched}
 use Rattle.likeness.specs.Least.{leastCount}
 use Rattle.likeness.proofs.Sizes.{skipped-none}
 use Rattle.likeness.proofs.Least.{least-pos, least-within, similar-least}
-use Rattle.index.specs.Words.{nameCount, nameId, nameSize}
+use Rattle.words.specs.Words.{nameCount, nameId, nameSize, featureSpan, keyOf}
 use Rattle.index.specs.Good.{Good}
-use Rattle.index.specs.Lists.{listIn, featureSpan, keyOf}
-use Rattle.index.proofs.Laws.{good-name-within, held-le-size}
+use Rattle.index.proofs.Laws.{good-name-within}
+use Rattle.lists.specs.Lists.{listIn}
+use Rattle.lists.proofs.Laws.{held-le-size}
 use Rattle.search.specs.Method.{orderedFor, listsFor, heldBy, signatures, remains, laterCount, sharedWith, listed, answersBelow, answersOf}
 use Rattle.search.proofs.Candidates.{remains-end}
 

@@ -13,7 +13,7 @@ use Rattle.laws.specs.Lists.{member, Ascending}
 use Rattle.laws.proofs.Tests.{same-test}
 use Rattle.laws.proofs.Members.{member-nil, member-one, member-left, member-right, member-append-cases, member-head, member-at, member-map, member-map-place}
 use Rattle.laws.proofs.Sort.{ascending-nil, ascending-snoc}
-use Rattle.index.specs.Words.{nameCount, nameId}
+use Rattle.words.specs.Words.{nameCount, nameId}
 use Rattle.index.specs.Good.{Good}
 use Rattle.index.proofs.Laws.{good-ids, good-ids-apart}
 use Rattle.search.specs.Method.{listed, answersBelow, answersOf}

@@ -16,7 +16,8 @@ use Rattle.laws.proofs.Lists.{length-tabulate, getD-tabulate, distinct-tabulate
 use Rattle.laws.proofs.Order.{le-or-lt}
 use Rattle.laws.proofs.Members.{member-head, member-tail, member-cases, member-nil, member-at, member-place, member-map, member-map-place, distinct-map, each-member}
 use Rattle.laws.proofs.Sort.{above-members, ascending-nil, ascending-cons, ascending-above, ascending-rest, above-member, ascending-lt, ascending-sort, ascending-unique, member-sort, length-sort}
-use Rattle.index.specs.Lists.{listIn, featureSpan, keyOf}
+use Rattle.words.specs.Words.{featureSpan, keyOf}
+use Rattle.lists.specs.Lists.{listIn}
 use Rattle.search.specs.Method.{orderedFor, listsFor}
 use Rattle.search.specs.Tables.{smallKey}
 use Rattle.search.proofs.Laws.{Query}

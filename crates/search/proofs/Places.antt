@@ -18,7 +18,7 @@ use Rattle.laws.proofs.Below.{sum-below-step}
 use Rattle.laws.proofs.Members.{member-at}
 use Rattle.laws.proofs.Order.{eq-or-ne, le-or-lt}
 use Rattle.laws.proofs.Tables.{table-of, table-set}
-use Rattle.index.specs.Words.{nameCount, nameSize}
+use Rattle.words.specs.Words.{nameCount, nameSize}
 use Rattle.index.specs.Good.{mostNames}
 use Rattle.search.specs.Method.{namesOf}
 use Rattle.search.specs.Tables.{presentAt, MetBy, kept}

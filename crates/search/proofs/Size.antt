@@ -22,12 +22,13 @@ use Rattle.laws.proofs.Tests.{same-test, and-parts}
 use Rattle.laws.proofs.Below.{and-both}
 use Rattle.laws.proofs.Order.{le-or-lt}
 use Rattle.laws.proofs.Sort.{ascending-sorted, ascending-distinct, sort-sorted, ascending-of}
-use Rattle.index.specs.Words.{nameCount, nameWord, nameId, nameSize, namesStart}
+use Rattle.words.specs.Words.{nameCount, nameWord, nameId, nameSize, namesStart}
 use Rattle.index.specs.Good.{Good, mostNames}
-use Rattle.index.specs.Part.{Span, cut}
-use Rattle.index.specs.Lists.{listIn, spanIn}
-use Rattle.index.proofs.Laws.{good-names-most, good-within, good-ids, good-named, good-ids-apart, good-ascending, span-words}
-use Rattle.index.proofs.Spans.{span-within, span-count}
+use Rattle.index.proofs.Laws.{good-names-most, good-within, good-ids, good-ids-apart}
+use Rattle.lists.specs.Part.{Span, cut}
+use Rattle.lists.specs.Lists.{listIn, spanIn}
+use Rattle.lists.proofs.Laws.{good-named, good-ascending, span-words}
+use Rattle.lists.proofs.Spans.{span-within, span-count}
 use Rattle.search.specs.Method.{listsFor, heldBy, signatures, signaturePostings, remains, remaining, laterCount, touchesAt}
 use Rattle.search.specs.Tables.{idAt, Names, Named, startOf, smallKey, cutAt, cutLists, Readable, remainsAt, laterTouches, nameWords, Asked, postingsOf}
 use Rattle.search.proofs.Laws.{Query, length-lists, held-features}

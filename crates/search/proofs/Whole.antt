@@ -27,10 +27,10 @@ use Rattle.names.specs.Features.{mostFeatures, characters, featuresOf}
 use Rattle.names.specs.Set.{filled}
 use Rattle.names.specs.declared.FeatureSet.{FeatureSet}
 use Rattle.names.proofs.Laws.{size-within, distinct-features, feature-fits}
-use Rattle.index.specs.Words.{nameCount, nameWord, nameId, nameSize, namesStart}
+use Rattle.words.specs.Words.{nameCount, nameWord, nameId, nameSize, namesStart, featureSpan, keyOf}
 use Rattle.index.specs.Good.{Good, mostNames}
-use Rattle.index.specs.Lists.{listIn, featureSpan, keyOf}
 use Rattle.index.proofs.Laws.{good-name-within, good-names-most}
+use Rattle.lists.specs.Lists.{listIn}
 use Rattle.search.specs.Method.{orderedFor, listsFor, sharedWith, sizesEnd, touchesOfSize, touchesOf, listed, answersBelow, answersOf}
 use Rattle.search.specs.Tables.{idAt, nameWords, Asked, answeredAt, answersTable, placesIn}
 use Rattle.search.proofs.Laws.{Query, listed-similar}

@@ -27,10 +27,11 @@ use Rattle.likeness.specs.Measures.{goodMeasure, goodThreshold}
 use Rattle.likeness.specs.Sizes.{isSearched}
 use Rattle.likeness.specs.Least.{leastCount}
 use Rattle.likeness.proofs.Least.{least-pos, least-within}
-use Rattle.index.specs.Words.{nameCount, nameId, nameSize}
+use Rattle.words.specs.Words.{nameCount, nameId, nameSize, featureSpan, keyOf}
 use Rattle.index.specs.Good.{Good, mostNames, mostPostings}
-use Rattle.index.specs.Lists.{listIn, featureSpan, keyOf}
-use Rattle.index.proofs.Laws.{good-ascending, good-named, good-names-most, good-name-within}
+use Rattle.index.proofs.Laws.{good-names-most, good-name-within}
+use Rattle.lists.specs.Lists.{listIn}
+use Rattle.lists.proofs.Laws.{good-ascending, good-named}
 use Rattle.names.specs.Features.{mostFeatures}
 use Rattle.search.specs.Method.{namesOf, orderedFor, listsFor, heldBy, signatures, signaturePostings, remains, remaining, laterCount, touchesAt, sizesEnd, touchesOfSize, touchesOf}
 use Rattle.search.proofs.Laws.{count-map, count-ordered, length-lists, Query}

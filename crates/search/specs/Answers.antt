@@ -9,7 +9,7 @@ use Rattle.names.specs.Names.{judgeOf}
 use Rattle.names.specs.Features.{featuresOf}
 use Rattle.likeness.specs.Measures.{goodMeasure, goodThreshold}
 use Rattle.likeness.specs.Terms.{lowestTerms}
-use Rattle.index.specs.Words.{nameId, nameSize}
+use Rattle.words.specs.Words.{nameId, nameSize}
 use Rattle.index.specs.Good.{goodOf}
 use Rattle.search.specs.Method.{touchesOf, sharedWith, answersOf}
 use Rattle.search.specs.declared.Answer.{Answer}

@@ -14,8 +14,8 @@ use Rattle.laws.specs.Sort.{sortOf}
 use Rattle.names.specs.Features.{mostFeatures}
 use Rattle.likeness.specs.Sizes.{isSearched}
 use Rattle.likeness.specs.Least.{leastCount}
-use Rattle.index.specs.Words.{nameCount, nameId, nameSize}
-use Rattle.index.specs.Lists.{listIn, featureSpan, keyOf}
+use Rattle.words.specs.Words.{nameCount, nameId, nameSize, featureSpan, keyOf}
+use Rattle.lists.specs.Lists.{listIn}
 
 -- ---- one size: the lists of the query's features, in their order
 

@@ -10,9 +10,9 @@ use Rattle.laws.specs.Lists.{member, Distinct, Ascending, tabulate, sumOf}
 use Rattle.laws.specs.Below.{sumBelow, countBelow}
 use Rattle.laws.specs.Each.{Each}
 use Rattle.names.specs.Features.{mostFeatures}
-use Rattle.index.specs.Words.{nameCount, nameSize, namesStart}
-use Rattle.index.specs.Lists.{featureSpan, spanIn, listIn}
+use Rattle.words.specs.Words.{nameCount, nameSize, namesStart, featureSpan}
 use Rattle.index.specs.Good.{mostNames}
+use Rattle.lists.specs.Lists.{spanIn, listIn}
 use Rattle.search.specs.Method.{namesOf, listsFor, heldBy, signatures, remains, laterCount, touchesAt, sharedWith, sizesEnd, touchesOfSize, touchesOf, listed}
 
 -- ---- the names, as their words

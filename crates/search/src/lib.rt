@@ -47,7 +47,7 @@ fn tally(
     let mut m = already;
     let mut k = 0;
     while k < list.len() {
-        let i = index::place_in(names, list[k] * 256);
+        let i = halving::place_in(names, list[k] * 256);
         let count = counts[i];
         if count == 0 {
             met[m] = i;
@@ -64,7 +64,7 @@ fn counted(list: &[u32], id: u32, count: u32) -> u32
     requires { ⌜ Ascending (now list) × (count ≤ 65535) ⌝ }
     ensures { λ r. ⌜ (r ≡ count + cond (member id (now (list .entry))) 1 0) × (r ≤ 65536) ⌝ }
 {
-    if index::holds(list, id) {
+    if halving::holds(list, id) {
         return count + 1;
     }
     count
@@ -108,11 +108,11 @@ fn sizes_present(words: &[u32]) -> [u32; 67]
     requires { ⌜ Good (now words) ⌝ }
     ensures { λ r. ⌜ r ≡ tabulate (presentAt (now (words .entry))) sizesEnd ⌝ }
 {
-    let n = index::name_count(words);
+    let n = words::name_count(words);
     let mut table = [0u32; 67];
     let mut i = 0;
     while i < n {
-        let size = index::name_size(words, i) as usize;
+        let size = words::name_size(words, i) as usize;
         table[size] = 1;
         i += 1;
     }
@@ -154,11 +154,11 @@ fn find_lists(
     ensures { λ r. ⌜ (now (starts .exit) ≡ tabulate (startOf (now (words .entry)) size (now (features .entry))) (length (now (features .entry))) ++ drop (length (now (features .entry))) (now (starts .entry))) × (now (keys .exit) ≡ tabulate (smallKey (now (words .entry)) size (now (features .entry))) (length (now (features .entry))) ++ drop (length (now (features .entry))) (now (keys .entry))) ⌝ }
     ensures { λ r. ⌜ r ≡ filledOf (now (words .entry)) size (now (features .entry)) (length (now (features .entry))) ⌝ }
 {
-    let rows = index::rows_of_size(words, size);
+    let rows = lists::rows_of_size(words, size);
     let mut filled = 0;
     let mut j = 0;
     while j < features.len() {
-        let place = index::place_among(words, rows.from, rows.to, size, features[j]);
+        let place = lists::place_among(words, rows.from, rows.to, size, features[j]);
         let key = place.count as u64 * 256 + j as u64;
         starts[j] = place.start;
         keys[j] = key;
@@ -586,7 +586,7 @@ fn run(
     ensures { λ r. ⌜ now (shared .exit) ≡ over (sharedColumn (now (words .entry)) (featuresOf (now (query .entry))) (givenBy r (answersOf (now (words .entry)) measure p q (featuresOf (now (query .entry)))))) (now (shared .entry)) ⌝ }
     ensures { λ r. ⌜ now (sizes .exit) ≡ over (sizeColumn (now (words .entry)) (givenBy r (answersOf (now (words .entry)) measure p q (featuresOf (now (query .entry)))))) (now (sizes .entry)) ⌝ }
 {
-    let n = index::name_count(words);
+    let n = words::name_count(words);
     let names = &words[3..3 + n];
     let found = cover_sizes(query, measure, p, q, allowance as usize, words, names);
     if found.past {

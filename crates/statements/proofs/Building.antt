@@ -13,10 +13,10 @@ use Rattle.laws.proofs.Lists.{count-ext}
 use Rattle.names.specs.Features.{featuresOf}
 use Rattle.names.specs.Shared.{sharedOf}
 use Rattle.names.proofs.Laws.{length-features}
-use Rattle.index.specs.Words.{nameCount, nameId, nameSize}
+use Rattle.words.specs.Words.{nameCount, nameId, nameSize}
 use Rattle.index.specs.Good.{goodOf}
 use Rattle.postings.specs.Built.{Entry, wordsOf}
-use Rattle.index.specs.Lists.{featuresIn}
+use Rattle.lists.specs.Lists.{featuresIn}
 use Rattle.register.specs.Lines.{linesOf, nthLine}
 use Rattle.register.specs.Build.{idIn, nameOf, wordsAfter, builtOf}
 use Rattle.register.proofs.Laws.{accepted-good, refused-words, refused-bad}

@@ -24,10 +24,10 @@ use Rattle.likeness.specs.Least.{leastCount}
 use Rattle.likeness.specs.Terms.{lowestTerms}
 use Rattle.likeness.proofs.Measures.{measure-range, similar-fraction, facts-threshold}
 use Rattle.likeness.proofs.Least.{least-pos, least-within}
-use Rattle.index.specs.Words.{nameCount, nameId, nameSize}
+use Rattle.words.specs.Words.{nameCount, nameId, nameSize}
 use Rattle.index.specs.Good.{goodOf, Good}
-use Rattle.index.specs.Lists.{listIn, featuresIn}
-use Rattle.index.proofs.Laws.{features-member}
+use Rattle.lists.specs.Lists.{listIn, featuresIn}
+use Rattle.lists.proofs.Laws.{features-member}
 use Rattle.search.specs.Method.{namesOf, sharedWith, listsFor, heldBy, listed, touchesAt, touchesOfSize, touchesOf, answersOf}
 use Rattle.search.specs.Answers.{numberIn, rowsIn, touchesIn, thresholdP, thresholdQ, questionOf, refusalOf, searchGoodOf, searchOf, givenBy, idColumn, sharedColumn, sizeColumn, over, roomOf}
 use Rattle.search.specs.declared.Answer.{Answer}

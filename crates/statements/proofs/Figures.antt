@@ -13,9 +13,9 @@ use Rattle.likeness.specs.Measures.{measureOf, goodMeasure, goodThreshold, reac
 use Rattle.likeness.specs.Sizes.{beside, mayReach, isSearched}
 use Rattle.likeness.specs.Least.{leastCount}
 use Rattle.likeness.specs.Terms.{divisorF, divisorOf, lowestTerms}
-use Rattle.index.specs.Words.{nameWord, nameId, nameSize, rowSize, rowFeature, rowPlace, rowLength, posting, listAt}
+use Rattle.words.specs.Words.{nameWord, nameId, nameSize, rowSize, rowFeature, rowPlace, rowLength, posting, listAt}
 use Rattle.index.specs.Good.{headGood, nameGood, namesGood, rowBefore, placeDue, rowGood, rowsGood, isName, listGood, listsWith, listsGood, goodOf}
-use Rattle.index.specs.Lists.{rowIs, rowFor, listIn}
+use Rattle.lists.specs.Lists.{rowIs, rowFor, listIn}
 use Rattle.postings.specs.Built.{triplesOf, allTriples, joinRow, runsOf, listsOf, rowWords, wordsFrom, rowsOf, wordsOf}
 use Rattle.search.specs.Method.{orderedFor, listsFor, heldBy, signaturePostings, remains, remaining, touchesAt, sharedWith, touchesOfSize, touchesOf, listed, answersBelow, answersOf}
 use Rattle.search.specs.Answers.{questionOf, refusalOf, searchGoodOf, searchOf}

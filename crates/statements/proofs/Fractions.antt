@@ -16,7 +16,7 @@ use Rattle.likeness.proofs.Measures.{facts-threshold}
 use Rattle.likeness.proofs.Sizes.{searched-equal}
 use Rattle.likeness.proofs.Least.{least-equal}
 use Rattle.likeness.proofs.Terms.{lowest-equal}
-use Rattle.index.specs.Words.{nameCount, nameId, nameSize}
+use Rattle.words.specs.Words.{nameCount, nameId, nameSize}
 use Rattle.search.specs.Method.{listsFor, remains, laterCount, touchesAt, sizesEnd, touchesOfSize, touchesOf, listed, answersBelow, answersOf}
 use Rattle.search.specs.Answers.{questionOf, refusalOf, searchGoodOf, searchOf, givenBy, over, idColumn, sharedColumn, sizeColumn}
 use Rattle.search.specs.declared.Answer.{Answer}

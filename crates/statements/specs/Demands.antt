@@ -18,10 +18,10 @@ use Rattle.likeness.specs.Sizes.{isSearched}
 use Rattle.likeness.specs.Least.{leastCount}
 use Rattle.likeness.specs.Fractions.{FractionLe, numerator, denominator, raised}
 use Rattle.likeness.specs.Terms.{lowestTerms}
-use Rattle.index.specs.Words.{nameCount, nameId, nameSize}
+use Rattle.words.specs.Words.{nameCount, nameId, nameSize}
 use Rattle.index.specs.Good.{goodOf, Good}
 use Rattle.postings.specs.Built.{wordsOf}
-use Rattle.index.specs.Lists.{listIn, featuresIn}
+use Rattle.lists.specs.Lists.{listIn, featuresIn}
 use Rattle.frames.specs.Layouts.{isFrame, nameIn, lineOf, readOf}
 use Rattle.frames.specs.Frames.{nameFrame, queryFrame, rowFrame, endFrame, refusalFrame, layouts, nameOut, queryOut, rowOut, endOut, refusalOut}
 use Rattle.frames.specs.declared.NameRead.{NameRead}

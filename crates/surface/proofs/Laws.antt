@@ -16,9 +16,9 @@ use Rattle.frames.specs.declared.Layout.{Layout}
 use Rattle.frames.specs.Layouts.{lineOf, readOf, writtenOf}
 use Rattle.frames.proofs.Layouts.{read-cases}
 use Rattle.index.specs.Good.{goodOf}
-use Rattle.index.specs.Part.{none}
-use Rattle.index.specs.Lists.{spanIn, spanFor}
-use Rattle.index.proofs.Spans.{span-within}
+use Rattle.lists.specs.Part.{none}
+use Rattle.lists.specs.Lists.{spanIn, spanFor}
+use Rattle.lists.proofs.Spans.{span-within}
 use Rattle.search.specs.declared.Answer.{Answer}
 use Rattle.search.specs.declared.Answer.the-variants.{Found, Refused}
 use Rattle.search.specs.Method.{touchesOf, answersOf}

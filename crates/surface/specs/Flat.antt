@@ -5,7 +5,7 @@ use Prim.Native.Nat.{ℕ}
 use lib.ListN.{getD}
 use Rattle.frames.specs.declared.Reading.{Reading}
 use Rattle.frames.specs.declared.Written.{Written}
-use Rattle.index.specs.Part.{Span}
+use Rattle.lists.specs.Part.{Span}
 use Rattle.register.specs.declared.Built.{Built}
 use Rattle.search.specs.declared.Answer.{Answer}
 use Rattle.search.specs.Answers.{numberIn, rowsIn, touchesIn, thresholdP, thresholdQ}

@@ -7,7 +7,7 @@ ghost use Rattle.names.specs.Features.{featuresOf};
 ghost use Rattle.frames.specs.Layouts.{readOf, bufferOf, writtenOf, outOf};
 ghost use Rattle.frames.specs.Frames.{nameFrame, queryFrame, rowFrame, endFrame, refusalFrame};
 ghost use Rattle.index.specs.Good.{goodOf};
-ghost use Rattle.index.specs.Lists.{spanFor};
+ghost use Rattle.lists.specs.Lists.{spanFor};
 ghost use Rattle.register.specs.Build.{builtOf, wordsAfter};
 ghost use Rattle.search.specs.Method.{answersOf};
 ghost use Rattle.search.specs.Answers.{over, roomOf, givenBy, idColumn, sharedColumn, sizeColumn, searchOf};
@@ -115,7 +115,7 @@ pub extern "C" fn rushgirdle_list(words: &[u32], size: u32, feature: u64) -> Lis
     if !index::good(words) {
         return ListAnswer { start: 0, count: 0 };
     }
-    let l = index::place_for_good(words, size, feature);
+    let l = lists::place_for_good(words, size, feature);
     ListAnswer {
         start: l.start,
         count: l.count,

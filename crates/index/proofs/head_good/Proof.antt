@@ -1,7 +1,7 @@
 -- `head_good` meets its contract: the tests stand in the order of the definition.
 use mathlib.Core.Path.{sym, ap, _∙_}
 use native.Mathlib.Omega.{arith}
-use Rattle.index.specs.Words.{rowStart}
+use Rattle.words.specs.Words.{rowStart}
 use Rattle.index.proofs.Check.{head-short, head-many, head-long, head-last}
 use borrow.Author.Needs.{needs}
 use Rattle.index.proofs.head_good.Statement.{statement}

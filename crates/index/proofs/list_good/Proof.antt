@@ -5,10 +5,10 @@ use mathlib.Core.Bool.{false≢true}
 use Prim.Native.Nat.{ℕ, _+_, _-_, _≤_, _<_}
 use native.Mathlib.Omega.{arith}
 use lib.ListN.{length, getD, set, length-set}
-use Rattle.index.specs.Words.{namesStart, postingsStart, rowStart, rowWidth, nameCount, rowLength, rowSize, posting}
-use Rattle.index.specs.Lists.{nameFor}
+use Rattle.words.specs.Words.{namesStart, postingsStart, rowStart, rowWidth, nameCount, rowLength, rowSize, posting}
+use Rattle.words.proofs.Laws.{row-in}
+use Rattle.index.specs.Check.{nameFor}
 use Rattle.index.proofs.Facts.{head-facts}
-use Rattle.index.proofs.Rows.{row-in}
 use Rattle.index.proofs.Tally.{ListTo, idAt, list-start, list-out, list-unnamed, list-more, tally-most, list-whole, posting-in}
 use Rattle.index.proofs.list_good.Statement.{statement}
 use Rattle.index.proofs.list_good.Tie as tie

@@ -7,7 +7,7 @@ use mathlib.Core.List.{List}
 use lib.ListN.{take, drop}
 use lib.Dec.{ltb}
 use Rattle.laws.specs.Lists.{Ascending, countOf}
-use Rattle.index.specs.Words.{nameCount}
+use Rattle.words.specs.Words.{nameCount}
 use Rattle.index.proofs.Facts.{head-facts}
 use Rattle.index.proofs.Names.{nameWords, names-within, words-ascend, place-words, place-large}
 use borrow.Author.Needs.{needs}

@@ -4,7 +4,7 @@ use mathlib.Core.Logic.{⊎-elim}
 use Prim.Native.Nat.{_-_}
 use native.Mathlib.Omega.{arith}
 use borrow.Author.Tests.{not-true, not-false}
-use Rattle.index.specs.Words.{nameCount}
+use Rattle.words.specs.Words.{nameCount}
 use Rattle.index.proofs.Facts.{head-facts}
 use Rattle.index.proofs.Check.{NamesTo, names-none, names-more, names-all, names-bad, names-out}
 use Rattle.index.proofs.names_good.Statement.{statement}

@@ -4,9 +4,10 @@ use mathlib.Core.Logic.{⊎-elim}
 use Prim.Native.Nat.{ℕ, _+_, _-_, _≤_, _<_}
 use native.Mathlib.Omega.{arith}
 use lib.ListN.{length, getD}
-use Rattle.index.specs.Words.{rowCount, rowStart, rowWidth}
+use Rattle.words.specs.Words.{rowCount, rowStart, rowWidth}
+use Rattle.words.proofs.Laws.{row-in}
 use Rattle.index.proofs.Facts.{head-facts}
-use Rattle.index.proofs.Rows.{row-in, before-key}
+use Rattle.index.proofs.Keys.{before-key}
 use Rattle.index.proofs.Check.{RowsTo, rows-none, rows-more, rows-all, rows-empty, rows-misplaced, rows-out}
 use Rattle.index.proofs.rows_good.Statement.{statement}
 use Rattle.index.proofs.rows_good.Tie as tie

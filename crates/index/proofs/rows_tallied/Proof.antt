@@ -8,7 +8,7 @@ use lib.ListN.{length}
 use Rattle.laws.specs.Below.{allBelow}
 use Rattle.laws.proofs.Below.{all-nil, all-fails}
 use Rattle.laws.proofs.Found.{all-more}
-use Rattle.index.specs.Words.{rowCount}
+use Rattle.words.specs.Words.{rowCount}
 use Rattle.index.specs.Good.{listGood}
 use Rattle.index.specs.Check.{Tallied}
 use Rattle.index.proofs.Facts.{head-facts}

@@ -9,7 +9,7 @@ use lib.Seq.{paste}
 use Rattle.names.specs.Features.{featuresOf, mostFeatures}
 use Rattle.names.specs.declared.FeatureSet.{FeatureSet}
 use Rattle.names.proofs.Laws.{size-most, feature-fits}
-use Rattle.index.specs.Lists.{featureSpan}
+use Rattle.words.specs.Words.{featureSpan}
 use Rattle.postings.specs.Built.{tripleOf}
 use Rattle.register.proofs.Over.{paste-front}
 use Rattle.register.proofs.add_name.Statement.{statement}

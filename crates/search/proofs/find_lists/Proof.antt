@@ -10,8 +10,8 @@ use lib.ListN.{length, getD, set, length-set}
 use Rattle.laws.specs.Below.{sumBelow}
 use Rattle.laws.proofs.Tables.{tableOver, over-nil, over-step}
 use Rattle.laws.proofs.Below.{count-below-most, sum-below-step}
-use Rattle.index.specs.Lists.{listIn}
-use Rattle.index.proofs.Spans.{span-count}
+use Rattle.lists.specs.Lists.{listIn}
+use Rattle.lists.proofs.Spans.{span-count}
 use Rattle.index.proofs.Laws.{good-names-most}
 use Rattle.search.specs.Tables.{startOf, smallKey, filledOf}
 use Rattle.search.proofs.Work.{list-length}
@@ -37,7 +37,7 @@ counts c =
     let f = getD (b .args .features .now) (c .before .before .before .loop .j) 0 in
     let e = c .place-among .ensures .1 ∙ span-count (b .args .words .now) (b .pre .0) (b .args .size) f in
     let l = list-length (b .args .words .now) (b .pre .0) (b .args .size) f in
-    let m = count-below-most (Rattle.index.specs.Words.nameCount (b .args .words .now)) (λ (i : ℕ). lib.Dec.eqb (Rattle.index.specs.Words.nameSize (b .args .words .now) i) (b .args .size)) in
+    let m = count-below-most (Rattle.words.specs.Words.nameCount (b .args .words .now)) (λ (i : ℕ). lib.Dec.eqb (Rattle.words.specs.Words.nameSize (b .args .words .now) i) (b .args .size)) in
     let n = good-names-most (b .args .words .now) (b .pre .0) in
     (e, omega arith)
 

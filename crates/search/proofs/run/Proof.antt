@@ -13,7 +13,7 @@ use Rattle.names.specs.Features.{featuresOf}
 use Rattle.names.proofs.Laws.{size-most}
 use Rattle.likeness.specs.Terms.{lowestTerms}
 use Rattle.likeness.specs.declared.Threshold.{Threshold}
-use Rattle.index.specs.Words.{nameCount, nameId, nameSize}
+use Rattle.words.specs.Words.{nameCount, nameId, nameSize}
 use Rattle.index.specs.Good.{mostNames}
 use Rattle.index.proofs.Laws.{good-three, good-within, good-names-most}
 use Rattle.search.specs.Method.{sizesEnd, touchesOf, answersOf, sharedWith}

@@ -6,7 +6,7 @@ use native.Mathlib.Omega.{arith}
 use lib.ListN.{length, getD, set}
 use Rattle.laws.specs.Lists.{tabulate}
 use Rattle.laws.proofs.Lists.{length-tabulate, tabulate-ext}
-use Rattle.index.specs.Words.{nameCount, nameSize}
+use Rattle.words.specs.Words.{nameCount, nameSize}
 use Rattle.index.proofs.Laws.{good-three, good-within, good-names-most, good-name-within}
 use Rattle.search.specs.Tables.{presentAt}
 use Rattle.search.proofs.Places.{presentBy, present-nil, present-step, present-all}

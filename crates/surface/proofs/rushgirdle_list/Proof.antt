@@ -4,8 +4,8 @@ use mathlib.Core.Bool.{true, false, cond}
 use Prim.Native.Nat.{ℕ}
 use borrow.Author.Tests.{not-true, not-false}
 use Rattle.index.specs.Good.{goodOf}
-use Rattle.index.specs.Lists.{spanIn, spanFor}
-use Rattle.index.specs.Part.{none}
+use Rattle.lists.specs.Lists.{spanIn, spanFor}
+use Rattle.lists.specs.Part.{none}
 use Rattle.surface.specs.declared.ListAnswer.{ListAnswer}
 use Rattle.surface.specs.Flat.{listAnswer}
 use borrow.Author.Needs.{needs}

@@ -1,0 +1,22 @@
+-- `name_id` meets its contract: the word above its low byte.
+use mathlib.Core.Path.{refl}
+use Rattle.words.specs.Words.{nameWord, nameId}
+use borrow.Author.Needs.{needs}
+use Rattle.words.proofs.name_id.Statement.{statement}
+use Rattle.words.proofs.name_id.Tie as tie
+
+add-result : tie.Need-add-result
+add-result c = search needs
+
+mul-result : tie.Need-mul-result
+mul-result c = search needs
+
+shared-slice-read-result : tie.Need-shared-slice-read-result
+shared-slice-read-result c = search needs
+
+returns : tie.Need-returns
+unfolding nameId nameWord
+returns c = refl
+
+pub name-id-spec : {M : Type 1} → statement M
+name-id-spec = tie.close (tie.spec add-result mul-result shared-slice-read-result returns)

@@ -1,0 +1,97 @@
+-- How the index words are laid out: the one place that knows where a name, a row and a posting stand.
+-- Three head words, N name words, D rows of four words, P postings. Everything above reads the words through these.
+-- Past the end of the slice a word is 0.
+-- Assumes nothing.
+use mathlib.Core.List.{List}
+use Prim.Native.Nat.{ℕ, _+_, _*_, _/_, _%_, _^_}
+use lib.ListN.{getD, take, drop}
+
+-- ---- the head
+
+-- N, how many names
+abbrev pub nameCount : List ℕ → ℕ
+nameCount w = getD w 0 0
+
+-- D, how many rows
+abbrev pub rowCount : List ℕ → ℕ
+rowCount w = getD w 1 0
+
+-- P, how many postings
+abbrev pub postingCount : List ℕ → ℕ
+postingCount w = getD w 2 0
+
+-- ---- a name: id × 256 + size
+
+-- where the names start
+abbrev pub namesStart : ℕ
+namesStart = 3
+
+unfoldable pub nameWord : List ℕ → ℕ → ℕ
+nameWord w i = getD w (namesStart + i) 0
+
+unfoldable pub nameId : List ℕ → ℕ → ℕ
+nameId w i = nameWord w i / 256
+
+unfoldable pub nameSize : List ℕ → ℕ → ℕ
+nameSize w i = nameWord w i % 256
+
+-- ---- a row: size, feature, place, count
+
+-- how many words a row has
+abbrev pub rowWidth : ℕ
+rowWidth = 4
+
+-- where the rows start
+abbrev pub rowsStart : List ℕ → ℕ
+rowsStart w = namesStart + nameCount w
+
+-- where row r starts
+abbrev pub rowStart : List ℕ → ℕ → ℕ
+rowStart w r = rowsStart w + rowWidth * r
+
+unfoldable pub rowSize : List ℕ → ℕ → ℕ
+rowSize w r = getD w (rowStart w r) 0
+
+unfoldable pub rowFeature : List ℕ → ℕ → ℕ
+rowFeature w r = getD w (rowStart w r + 1) 0
+
+unfoldable pub rowPlace : List ℕ → ℕ → ℕ
+rowPlace w r = getD w (rowStart w r + 2) 0
+
+unfoldable pub rowLength : List ℕ → ℕ → ℕ
+rowLength w r = getD w (rowStart w r + 3) 0
+
+-- ---- a row by one number
+
+-- features are below this
+abbrev pub featureSpan : ℕ
+featureSpan = 2 ^ 32
+
+-- a size and a feature as one number
+abbrev pub keyOf : ℕ → ℕ → ℕ
+keyOf size feature = size * featureSpan + feature
+
+-- a row's size and feature as one number, by which the rows ascend
+unfoldable pub rowKey : List ℕ → ℕ → ℕ
+rowKey w r = keyOf (rowSize w r) (rowFeature w r)
+
+-- ---- a posting
+
+-- where the postings start
+abbrev pub postingsStart : List ℕ → ℕ
+postingsStart w = rowsStart w + rowWidth * rowCount w
+
+unfoldable pub posting : List ℕ → ℕ → ℕ
+posting w k = getD w (postingsStart w + k) 0
+
+-- where row r's list starts among the words
+abbrev pub listStart : List ℕ → ℕ → ℕ
+listStart w r = postingsStart w + rowPlace w r
+
+-- row r's list: as many words as its count from its place on
+unfoldable pub listAt : List ℕ → ℕ → List ℕ
+listAt w r = take (rowLength w r) (drop (listStart w r) w)
+
+-- how many words the index takes: 3 + N + 4D + P
+abbrev pub total : List ℕ → ℕ
+total w = postingsStart w + postingCount w

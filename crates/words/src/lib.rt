@@ -1,0 +1,115 @@
+// The index words one by one: where each stands, and what it says. The rule: docs/RULE.md, "Index words"; the definitions: specs/.
+ghost use mathlib.Core.Path.{_≡_};
+ghost use Prim.Native.Nat.{_+_, _*_, _^_, _≤_, _<_};
+ghost use lib.ListN.{length, getD};
+ghost use Rattle.words.specs.Words.{nameCount, rowCount, postingCount, namesStart, nameId, nameSize, rowWidth, rowStart, rowSize, rowFeature, rowPlace, rowLength, rowKey, postingsStart, posting};
+
+fn wide(x: u32) -> usize
+    ensures { λ r. ⌜ (r ≡ x) × (r < 4294967296) ⌝ }
+{
+    x as usize
+}
+
+// N, how many names.
+pub fn name_count(words: &[u32]) -> usize
+    requires { ⌜ namesStart ≤ length (now words) ⌝ }
+    ensures { λ r. ⌜ (r ≡ nameCount (now (words .entry))) × (r < 4294967296) ⌝ }
+{
+    wide(words[0])
+}
+
+// D, how many rows.
+pub fn row_count(words: &[u32]) -> usize
+    requires { ⌜ namesStart ≤ length (now words) ⌝ }
+    ensures { λ r. ⌜ (r ≡ rowCount (now (words .entry))) × (r < 4294967296) ⌝ }
+{
+    wide(words[1])
+}
+
+// P, how many postings.
+pub fn posting_count(words: &[u32]) -> usize
+    requires { ⌜ namesStart ≤ length (now words) ⌝ }
+    ensures { λ r. ⌜ (r ≡ postingCount (now (words .entry))) × (r < 4294967296) ⌝ }
+{
+    wide(words[2])
+}
+
+// The id of name i.
+pub fn name_id(words: &[u32], i: usize) -> u32
+    requires { ⌜ namesStart + i < length (now words) ⌝ }
+    ensures { λ r. ⌜ r ≡ nameId (now (words .entry)) i ⌝ }
+{
+    words[3 + i] / 256
+}
+
+// The size of name i.
+pub fn name_size(words: &[u32], i: usize) -> u32
+    requires { ⌜ namesStart + i < length (now words) ⌝ }
+    ensures { λ r. ⌜ r ≡ nameSize (now (words .entry)) i ⌝ }
+{
+    words[3 + i] % 256
+}
+
+// Where row r starts; with D for r, where the postings start.
+pub fn row_start(words: &[u32], r: usize) -> usize
+    requires { ⌜ (namesStart ≤ length (now words)) × (4 * r < 2 ^ 63) ⌝ }
+    ensures { λ v. ⌜ (v ≡ rowStart (now (words .entry)) r) × (v ≤ 4 * r + 4294967298) ⌝ }
+{
+    3 + wide(words[0]) + 4 * r
+}
+
+// Word k of row r.
+fn row_word(words: &[u32], r: usize, k: usize) -> u32
+    requires { ⌜ (k < rowWidth) × (rowStart (now words) r + rowWidth ≤ length (now words)) ⌝ }
+    ensures { λ v. ⌜ v ≡ getD (now (words .entry)) (rowStart (now (words .entry)) r + k) 0 ⌝ }
+{
+    words[row_start(words, r) + k]
+}
+
+// The size of row r.
+pub fn row_size(words: &[u32], r: usize) -> u32
+    requires { ⌜ rowStart (now words) r + rowWidth ≤ length (now words) ⌝ }
+    ensures { λ v. ⌜ v ≡ rowSize (now (words .entry)) r ⌝ }
+{
+    row_word(words, r, 0)
+}
+
+// The feature of row r.
+pub fn row_feature(words: &[u32], r: usize) -> u64
+    requires { ⌜ rowStart (now words) r + rowWidth ≤ length (now words) ⌝ }
+    ensures { λ v. ⌜ (v ≡ rowFeature (now (words .entry)) r) × (v < 4294967296) ⌝ }
+{
+    row_word(words, r, 1) as u64
+}
+
+// Where row r's list starts among the postings.
+pub fn row_place(words: &[u32], r: usize) -> usize
+    requires { ⌜ rowStart (now words) r + rowWidth ≤ length (now words) ⌝ }
+    ensures { λ v. ⌜ (v ≡ rowPlace (now (words .entry)) r) × (v < 4294967296) ⌝ }
+{
+    wide(row_word(words, r, 2))
+}
+
+// How many ids row r's list has.
+pub fn row_length(words: &[u32], r: usize) -> usize
+    requires { ⌜ rowStart (now words) r + rowWidth ≤ length (now words) ⌝ }
+    ensures { λ v. ⌜ (v ≡ rowLength (now (words .entry)) r) × (v < 4294967296) ⌝ }
+{
+    wide(row_word(words, r, 3))
+}
+
+// The size and the feature of row r as one number.
+pub fn row_key(words: &[u32], r: usize) -> u64
+    requires { ⌜ rowStart (now words) r + rowWidth ≤ length (now words) ⌝ }
+    ensures { λ v. ⌜ v ≡ rowKey (now (words .entry)) r ⌝ }
+{
+    row_size(words, r) as u64 * 4294967296 + row_feature(words, r)
+}
+
+// Posting k of all.
+pub fn posting(words: &[u32], k: usize) -> u32
+    requires { ⌜ (namesStart ≤ length (now words)) × (postingsStart (now words) + k < length (now words)) ⌝ }
+    ensures { λ v. ⌜ v ≡ posting (now (words .entry)) k ⌝ }
+{
+    words[row_start(words, row_count(words)) + k]
+}
