@@ -7,8 +7,7 @@ ghost use lib.ListN.{length};
 ghost use Rattle.layouts.specs.Layouts.{readOf, bufferOf, writtenOf, outOf};
 ghost use Rattle.frames.specs.Frames.{nameFrame, queryFrame, rowFrame, endFrame, refusalFrame, nameOut, queryOut, rowOut, endOut, refusalOut};
 
-// The five layouts.
-
+// The layouts of the five frames.
 const NAME: Layout = Layout {
     kind: 0x4E,
     widths: [2, 0, 0, 0],
