@@ -15,11 +15,11 @@ use Rattle.laws.proofs.Members.{member-at}
 use Rattle.laws.proofs.Order.{eq-or-ne}
 use Rattle.names.specs.Features.{featuresOf}
 use Rattle.names.proofs.Laws.{size-most}
-use Rattle.frames.specs.declared.Reading.{Reading}
+use Rattle.layouts.specs.declared.Reading.{Reading}
+use Rattle.layouts.specs.Layouts.{isFrame, fieldsIn, nameIn, readOf, bufferOf, acceptedAs, refusedWith}
+use Rattle.layouts.proofs.Laws.{read-roomy}
 use Rattle.frames.specs.declared.QueryRead.{QueryRead}
-use Rattle.frames.specs.Layouts.{isFrame, fieldsIn, nameIn, readOf, bufferOf, acceptedAs, refusedWith}
 use Rattle.frames.specs.Frames.{queryFrame, queryOut}
-use Rattle.frames.proofs.Laws.{read-roomy}
 use Rattle.words.specs.Words.{nameCount, nameId, nameSize}
 use Rattle.index.specs.Good.{Good}
 use Rattle.index.proofs.Laws.{good-name-within}

@@ -15,10 +15,10 @@ use Rattle.names.specs.Features.{featuresOf}
 use Rattle.likeness.specs.Terms.{lowestTerms}
 use Rattle.likeness.proofs.Measures.{threshold-facts}
 use Rattle.likeness.proofs.Terms.{lowest-good}
-use Rattle.frames.specs.Lines.{digits, digitOf, hexOf, hexLine}
-use Rattle.frames.specs.Numbers.{bytesFor}
-use Rattle.frames.specs.Layouts.{lineOf, fieldBytes, nameBytes, isFrame, readOf}
-use Rattle.frames.specs.declared.Layout.{Layout}
+use Rattle.hex.specs.Lines.{digits, digitOf, hexOf, hexLine}
+use Rattle.hex.specs.Numbers.{bytesFor}
+use Rattle.layouts.specs.Layouts.{lineOf, fieldBytes, nameBytes, isFrame, readOf}
+use Rattle.layouts.specs.declared.Layout.{Layout}
 use Rattle.frames.specs.declared.RowRead.the-variants.{Row}
 use Rattle.frames.specs.declared.EndRead.the-variants.{End}
 use Rattle.frames.specs.declared.RefusalRead.the-variants.{Refusal}

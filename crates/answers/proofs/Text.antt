@@ -11,11 +11,11 @@ use lib.Dec.{eqb, leb, ltb}
 use borrow.Author.Tests.{le-leb, lt-leb, leb-true}
 use borrow.Rule.Slice.PartMut.{putMid}
 use native.Mathlib.Numerals.{add-one}
-use Rattle.frames.specs.Lines.{hexOf, hexLine}
-use Rattle.frames.specs.Numbers.{bytesFor}
-use Rattle.frames.specs.Layouts.{fieldBytes, nameBytes, lineOf, writtenOf, outOf}
-use Rattle.frames.specs.declared.Written.{Written}
-use Rattle.frames.specs.declared.Layout.{Layout}
+use Rattle.hex.specs.Lines.{hexOf, hexLine}
+use Rattle.hex.specs.Numbers.{bytesFor}
+use Rattle.layouts.specs.Layouts.{fieldBytes, nameBytes, lineOf, writtenOf, outOf}
+use Rattle.layouts.specs.declared.Written.{Written}
+use Rattle.layouts.specs.declared.Layout.{Layout}
 use Rattle.frames.specs.Frames.{rowFrame, endFrame, refusalFrame}
 use Rattle.answers.specs.Output.{rowLine, endLine, refusalLine, rowsText, foundText, answerText, fittingOf, fittedOf}
 use Rattle.search.specs.declared.Answer.{Answer}

@@ -6,8 +6,8 @@ use Prim.Native.Nat.{ℕ, zero, suc, _+_}
 use lib.ListN.{length, getD, take, drop, replicate}
 use lib.Dec.{eqb, leb, ltb}
 use Rattle.names.specs.Features.{featuresOf}
-use Rattle.frames.specs.declared.Written.{Written}
-use Rattle.frames.specs.Layouts.{isFrame, fieldsIn, nameIn, lineOf}
+use Rattle.layouts.specs.declared.Written.{Written}
+use Rattle.layouts.specs.Layouts.{isFrame, fieldsIn, nameIn, lineOf}
 use Rattle.frames.specs.Frames.{queryFrame, rowFrame, endFrame, refusalFrame}
 use Rattle.register.specs.Lines.{linesOf, lineLength}
 use Rattle.register.specs.Build.{blank, builtOf, wordsAfter}

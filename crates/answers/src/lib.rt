@@ -11,7 +11,7 @@ ghost use Rattle.search.specs.Method.{answersOf};
 ghost use Rattle.search.specs.Answers.{rowsIn, searchOf, givenBy, roomOf, over, idColumn, sharedColumn, sizeColumn};
 ghost use Rattle.answers.specs.Output.{begins, registerEnd, openedOf, openWords, rowLine, rowsText, rowsLent, foundText, answerText, answerOf, fittingOf, fittedOf, lineText, respondedOf};
 ghost use Rattle.answers.specs.Rows.{Shown};
-use frames::Written;
+use layouts::Written;
 use search::Answer;
 
 // ---- opening: an input to its index

@@ -1,16 +1,20 @@
 -- The laws for each of the five frames: both round trips, that a reader's answer is fixed by its contract, and that no line is read as two
--- of them. Each cites the law over every layout in Laws.antt.
+-- of them. Each cites the law over every layout in `layouts`, Laws.antt.
 -- Assumes nothing.
 use mathlib.Core.Path.{_≡_, refl, sym, ap, _∙_}
-use mathlib.Core.Bool.{true, cond, _||_, not, true≢false}
+use mathlib.Core.Bool.{true, cond, _||_, not}
 use mathlib.Core.List.{List, [], _∷_}
 use Prim.Native.Nat.{ℕ, _≤_, _<_}
 use native.Mathlib.Omega.{arith}
 use lib.ListN.{length, getD}
 use lib.Dec.{eqb}
 use borrow.Author.Tests.{eq-eqb, eqb-true}
-use Rattle.frames.specs.declared.Layout.{Layout}
-use Rattle.frames.specs.declared.Reading.{Reading}
+use Rattle.laws.specs.Below.{allBelow}
+use Rattle.laws.proofs.Below.{all-at}
+use Rattle.hex.specs.Lines.{Bytes}
+use Rattle.layouts.specs.declared.Reading.{Reading}
+use Rattle.layouts.specs.Layouts.{lineOf, isFrame, nameIn, readOf}
+use Rattle.layouts.proofs.Laws.{fitting-named, fitting-plain, read-write, write-reading, kind-unique}
 use Rattle.frames.specs.declared.NameRead.{NameRead}
 use Rattle.frames.specs.declared.QueryRead.{QueryRead}
 use Rattle.frames.specs.declared.RowRead.{RowRead}
@@ -19,21 +23,7 @@ use Rattle.frames.specs.declared.EndRead.{EndRead}
 use Rattle.frames.specs.declared.EndRead.the-variants.{End, Malformed as NoEnd}
 use Rattle.frames.specs.declared.RefusalRead.{RefusalRead}
 use Rattle.frames.specs.declared.RefusalRead.the-variants.{Refusal, Malformed as NoRefusal}
-use Rattle.frames.specs.Lines.{Bytes}
-use Rattle.frames.specs.Layouts.{lineOf, FieldsFit, Fitting, isFrame, nameIn, readOf}
 use Rattle.frames.specs.Frames.{nameFrame, queryFrame, rowFrame, endFrame, refusalFrame, layouts, nameOut, queryOut, rowOut, endOut, refusalOut}
-use Rattle.frames.proofs.Digits.{allBelow, below}
-use Rattle.frames.proofs.Laws.{read-write, write-reading, kind-unique}
-
--- ---- what fits
-
--- the fields of a layout with a name, and any name of at most 255 bytes
-pub fitting-named : (y : Layout) (f name : List ℕ) → y .named ≡ true → y .kind < 256 → FieldsFit (y .widths) f → Bytes name → length name ≤ 255 → Fitting y f name
-fitting-named y f name n k h b s = record { kind = k; fields = h; bytes = b; short = s; plain = λ e. absurd (true≢false (sym n ∙ e)) }
-
--- the fields of a layout without one
-pub fitting-plain : (y : Layout) (f : List ℕ) → y .kind < 256 → FieldsFit (y .widths) f → Fitting y f []
-fitting-plain y f k h = record { kind = k; fields = h; bytes = λ i. omega arith; short = omega arith; plain = λ e. refl }
 
 -- ---- writing and then reading
 
@@ -96,9 +86,10 @@ write-read-refusal l number touches e = write-reading refusalFrame l 0 (refusalO
 
 -- the kinds of two layouts of the five differ, by one computed test
 pub kinds-differ : (i j : ℕ) → i < 5 → j < 5 → getD layouts i rowFrame .kind ≡ getD layouts j rowFrame .kind → i ≡ j
+unfolding allBelow
 kinds-differ i j h k e =
-    let t = below (λ (m : ℕ). allBelow (λ (n : ℕ). not (eqb (getD layouts m rowFrame .kind) (getD layouts n rowFrame .kind)) || eqb m n) 5) 5 refl i h in
-    let u = below (λ (n : ℕ). not (eqb (getD layouts i rowFrame .kind) (getD layouts n rowFrame .kind)) || eqb i n) 5 t j k in
+    let t = all-at 5 (λ (m : ℕ). allBelow 5 (λ (n : ℕ). not (eqb (getD layouts m rowFrame .kind) (getD layouts n rowFrame .kind)) || eqb m n)) refl i h in
+    let u = all-at 5 (λ (n : ℕ). not (eqb (getD layouts i rowFrame .kind) (getD layouts n rowFrame .kind)) || eqb i n) t j k in
     eqb-true i j (rw (eq-eqb _ _ e) at u)
 
 pub layout-unique : (l : List ℕ) (i j : ℕ) → i < 5 → j < 5 → isFrame (getD layouts i rowFrame) l ≡ true → isFrame (getD layouts j rowFrame) l ≡ true

@@ -1,9 +1,11 @@
 -- The five frames as layouts, and the answers of their readers set out as a reading: number, fields and length of the name.
+-- What a frame of a layout is, and what reading and writing it answer, is in `layouts`.
 -- Assumes nothing.
 use mathlib.Core.Bool.{true, false}
 use mathlib.Core.List.{List, [], _∷_}
-use Rattle.frames.specs.declared.Layout.{Layout}
-use Rattle.frames.specs.declared.Reading.{Reading}
+use Rattle.layouts.specs.declared.Layout.{Layout}
+use Rattle.layouts.specs.declared.Reading.{Reading}
+use Rattle.layouts.specs.Layouts.{refusedWith}
 use Rattle.frames.specs.declared.NameRead.{NameRead}
 use Rattle.frames.specs.declared.QueryRead.{QueryRead}
 use Rattle.frames.specs.declared.RowRead.{RowRead}
@@ -12,7 +14,6 @@ use Rattle.frames.specs.declared.EndRead.{EndRead}
 use Rattle.frames.specs.declared.EndRead.the-variants.{End, Malformed as NoEnd}
 use Rattle.frames.specs.declared.RefusalRead.{RefusalRead}
 use Rattle.frames.specs.declared.RefusalRead.the-variants.{Refusal, Malformed as NoRefusal}
-use Rattle.frames.specs.Layouts.{refusedWith}
 
 -- ---- the layouts: a kind, the widths of the fields, and whether a name follows
 

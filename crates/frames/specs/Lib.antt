@@ -1,4 +1,1 @@
-pub mod Lines
-pub mod Numbers
-pub mod Layouts
 pub mod Frames

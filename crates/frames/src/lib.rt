@@ -1,67 +1,42 @@
-// The five frames: hexadecimal lines to fields and back, over lent slices. Each frame is a layout; one reader and one writer serve them all.
-mod frame;
-mod hex;
-
+// The five frames: hexadecimal lines to fields and back, over lent slices. Each is a layout for the reader and the writer of the crate `layouts`.
+use layouts::Layout;
+use layouts::Written;
 ghost use mathlib.Core.Path.{_≡_};
 ghost use mathlib.Core.List.{[], _∷_};
 ghost use lib.ListN.{length};
-ghost use Rattle.frames.specs.Layouts.{readOf, bufferOf, writtenOf, outOf};
+ghost use Rattle.layouts.specs.Layouts.{readOf, bufferOf, writtenOf, outOf};
 ghost use Rattle.frames.specs.Frames.{nameFrame, queryFrame, rowFrame, endFrame, refusalFrame, nameOut, queryOut, rowOut, endOut, refusalOut};
 
-// A layout: the kind, the widths of the fields in bytes, and whether a name follows. A width of 0 is no field.
-pub struct Layout {
-    pub kind: u8,
-    pub widths: [u8; Layout::FIELDS],
-    pub named: bool,
-}
+// The layouts of the five frames.
+const NAME: Layout = Layout {
+    kind: 0x4E,
+    widths: [2, 0, 0, 0],
+    named: true,
+};
 
-impl Layout {
-    // The most fields that a layout has.
-    pub const FIELDS: usize = 4;
+const QUERY: Layout = Layout {
+    kind: 0x51,
+    widths: [1, 2, 2, 4],
+    named: true,
+};
 
-    const NAME: Layout = Layout {
-        kind: 0x4E,
-        widths: [2, 0, 0, 0],
-        named: true,
-    };
+const ROW: Layout = Layout {
+    kind: 0x52,
+    widths: [2, 1, 1, 0],
+    named: false,
+};
 
-    const QUERY: Layout = Layout {
-        kind: 0x51,
-        widths: [1, 2, 2, 4],
-        named: true,
-    };
+const END: Layout = Layout {
+    kind: 0x45,
+    widths: [2, 4, 2, 2],
+    named: false,
+};
 
-    const ROW: Layout = Layout {
-        kind: 0x52,
-        widths: [2, 1, 1, 0],
-        named: false,
-    };
-
-    const END: Layout = Layout {
-        kind: 0x45,
-        widths: [2, 4, 2, 2],
-        named: false,
-    };
-
-    const REFUSAL: Layout = Layout {
-        kind: 0x58,
-        widths: [1, 4, 0, 0],
-        named: false,
-    };
-}
-
-// A reading of a frame: its number, its fields and the length of its name.
-pub struct Reading {
-    pub number: u8,
-    pub fields: [u32; Layout::FIELDS],
-    pub len: usize,
-}
-
-// What writing answers: its number, and how many bytes were written.
-pub struct Written {
-    pub number: u8,
-    pub len: usize,
-}
+const REFUSAL: Layout = Layout {
+    kind: 0x58,
+    widths: [1, 4, 0, 0],
+    named: false,
+};
 
 // What reading a 4E line answers.
 pub struct NameRead {
@@ -108,7 +83,7 @@ pub fn read_name(line: &[u8], name: &mut [u8]) -> NameRead
     ensures { λ r. ⌜ nameOut r ≡ readOf nameFrame (now (line .entry)) (length (now (name .entry))) ⌝ }
     ensures { λ _. ⌜ now (name .exit) ≡ bufferOf nameFrame (now (line .entry)) (now (name .entry)) ⌝ }
 {
-    let r = frame::read_named(line, Layout::NAME, name);
+    let r = layouts::read_named(line, NAME, name);
     let id = r.fields[0] as u16;
     NameRead {
         number: r.number,
@@ -122,7 +97,7 @@ pub fn write_name(out: &mut [u8], id: u16, name: &[u8]) -> Written
     ensures { λ r. ⌜ r ≡ writtenOf nameFrame (id ∷ []) (now (name .entry)) (length (now (out .entry))) ⌝ }
     ensures { λ _. ⌜ now (out .exit) ≡ outOf nameFrame (id ∷ []) (now (name .entry)) (now (out .entry)) ⌝ }
 {
-    frame::write(out, Layout::NAME, [id as u32, 0, 0, 0], name)
+    layouts::write(out, NAME, [id as u32, 0, 0, 0], name)
 }
 
 // Reads a 51 line, and puts the query at the start of the buffer.
@@ -130,7 +105,7 @@ pub fn read_query(line: &[u8], query: &mut [u8]) -> QueryRead
     ensures { λ r. ⌜ queryOut r ≡ readOf queryFrame (now (line .entry)) (length (now (query .entry))) ⌝ }
     ensures { λ _. ⌜ now (query .exit) ≡ bufferOf queryFrame (now (line .entry)) (now (query .entry)) ⌝ }
 {
-    let r = frame::read_named(line, Layout::QUERY, query);
+    let r = layouts::read_named(line, QUERY, query);
     let measure = r.fields[0] as u8;
     let p = r.fields[1] as u16;
     let q = r.fields[2] as u16;
@@ -157,9 +132,9 @@ pub fn write_query(
     ensures { λ r. ⌜ r ≡ writtenOf queryFrame (measure ∷ p ∷ q ∷ allowance ∷ []) (now (query .entry)) (length (now (out .entry))) ⌝ }
     ensures { λ _. ⌜ now (out .exit) ≡ outOf queryFrame (measure ∷ p ∷ q ∷ allowance ∷ []) (now (query .entry)) (now (out .entry)) ⌝ }
 {
-    frame::write(
+    layouts::write(
         out,
-        Layout::QUERY,
+        QUERY,
         [measure as u32, p as u32, q as u32, allowance],
         query,
     )
@@ -169,7 +144,7 @@ pub fn write_query(
 pub fn read_row(line: &[u8]) -> RowRead
     ensures { λ r. ⌜ rowOut r ≡ readOf rowFrame (now (line .entry)) 0 ⌝ }
 {
-    let r = frame::read(line, Layout::ROW, 0);
+    let r = layouts::read(line, ROW, 0);
     if r.number != 0 {
         return RowRead::Malformed;
     }
@@ -184,19 +159,14 @@ pub fn write_row(out: &mut [u8], id: u16, shared: u8, size: u8) -> Written
     ensures { λ r. ⌜ r ≡ writtenOf rowFrame (id ∷ shared ∷ size ∷ []) [] (length (now (out .entry))) ⌝ }
     ensures { λ _. ⌜ now (out .exit) ≡ outOf rowFrame (id ∷ shared ∷ size ∷ []) [] (now (out .entry)) ⌝ }
 {
-    frame::write(
-        out,
-        Layout::ROW,
-        [id as u32, shared as u32, size as u32, 0],
-        &[],
-    )
+    layouts::write(out, ROW, [id as u32, shared as u32, size as u32, 0], &[])
 }
 
 // Reads a 45 line.
 pub fn read_end(line: &[u8]) -> EndRead
     ensures { λ r. ⌜ endOut r ≡ readOf endFrame (now (line .entry)) 0 ⌝ }
 {
-    let r = frame::read(line, Layout::END, 0);
+    let r = layouts::read(line, END, 0);
     if r.number != 0 {
         return EndRead::Malformed;
     }
@@ -217,19 +187,14 @@ pub fn write_end(out: &mut [u8], rows: u16, touches: u32, p: u16, q: u16) -> Wri
     ensures { λ r. ⌜ r ≡ writtenOf endFrame (rows ∷ touches ∷ p ∷ q ∷ []) [] (length (now (out .entry))) ⌝ }
     ensures { λ _. ⌜ now (out .exit) ≡ outOf endFrame (rows ∷ touches ∷ p ∷ q ∷ []) [] (now (out .entry)) ⌝ }
 {
-    frame::write(
-        out,
-        Layout::END,
-        [rows as u32, touches, p as u32, q as u32],
-        &[],
-    )
+    layouts::write(out, END, [rows as u32, touches, p as u32, q as u32], &[])
 }
 
 // Reads a 58 line.
 pub fn read_refusal(line: &[u8]) -> RefusalRead
     ensures { λ r. ⌜ refusalOut r ≡ readOf refusalFrame (now (line .entry)) 0 ⌝ }
 {
-    let r = frame::read(line, Layout::REFUSAL, 0);
+    let r = layouts::read(line, REFUSAL, 0);
     if r.number != 0 {
         return RefusalRead::Malformed;
     }
@@ -243,5 +208,5 @@ pub fn write_refusal(out: &mut [u8], number: u8, touches: u32) -> Written
     ensures { λ r. ⌜ r ≡ writtenOf refusalFrame (number ∷ touches ∷ []) [] (length (now (out .entry))) ⌝ }
     ensures { λ _. ⌜ now (out .exit) ≡ outOf refusalFrame (number ∷ touches ∷ []) [] (now (out .entry)) ⌝ }
 {
-    frame::write(out, Layout::REFUSAL, [number as u32, touches, 0, 0], &[])
+    layouts::write(out, REFUSAL, [number as u32, touches, 0, 0], &[])
 }

@@ -6,7 +6,7 @@ use frames::NameRead;
 use frames::QueryRead;
 use frames::RefusalRead;
 use frames::RowRead;
-use frames::Written;
+use layouts::Written;
 
 fn text(s: &[u8]) {
     io::write_all(1, s);

@@ -8,9 +8,9 @@ use Rattle.laws.specs.Lists.{member, tabulate, sumOf}
 use Rattle.laws.specs.Sort.{insert, sortOf}
 use Rattle.names.specs.Names.{judgeOf}
 use Rattle.names.specs.Features.{padded, joined, gramAt, timesIn, numberAt, numbered, featuresBy, featuresOf}
-use Rattle.frames.specs.Lines.{digitOf, placeIn, valueOf, isDigit, hexOf, hexLine, wellFormed, bytesOf}
-use Rattle.frames.specs.Numbers.{numberOf}
-use Rattle.frames.specs.Layouts.{headSize, nameSize, laidOut, isFrame, fieldsOf, fieldsIn, nameIn}
+use Rattle.hex.specs.Lines.{digitOf, placeIn, valueOf, isDigit, hexOf, hexLine, wellFormed, bytesOf}
+use Rattle.hex.specs.Numbers.{numberOf}
+use Rattle.layouts.specs.Layouts.{headSize, nameSize, laidOut, isFrame, fieldsOf, fieldsIn, nameIn}
 use Rattle.postings.specs.Built.{triplesOf, allTriples, joinRow, runsOf, listsOf, rowWords, wordsFrom, rowsOf, wordsOf}
 use Rattle.register.specs.Lines.{joinLine, linesOf}
 use Rattle.register.specs.declared.Built.{Built}

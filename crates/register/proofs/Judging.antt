@@ -10,11 +10,11 @@ use lib.ListN.{length, getD, take, drop, length-append, length-drop}
 use lib.Seq.{take-append-seam}
 use lib.Dec.{eqb, ltb, leb}
 use Rattle.names.specs.Names.{judgeOf}
+use Rattle.layouts.specs.declared.Reading.{Reading}
+use Rattle.layouts.specs.Layouts.{isFrame, readOf, bufferOf, acceptedAs, refusedWith}
+use Rattle.layouts.proofs.Laws.{read-roomy, read-fits}
 use Rattle.frames.specs.declared.NameRead.{NameRead}
-use Rattle.frames.specs.declared.Reading.{Reading}
-use Rattle.frames.specs.Layouts.{isFrame, readOf, bufferOf, acceptedAs, refusedWith}
 use Rattle.frames.specs.Frames.{nameFrame, nameOut}
-use Rattle.frames.proofs.Laws.{read-roomy, read-fits}
 use Rattle.index.specs.Good.{mostNames}
 use Rattle.register.specs.Build.{idIn, nameOf, judgeLine}
 use Rattle.register.specs.Steps.{Heard}

@@ -10,10 +10,10 @@ use lib.ListN.{length, getD, take, drop, set, length-append, length-drop, length
 use lib.Seq.{drop-drop, take-all, take-suc-set, take-paste, paste}
 use Rattle.names.specs.Names.{judgeOf}
 use Rattle.names.specs.Features.{featuresOf, mostFeatures}
-use Rattle.frames.specs.Layouts.{readOf}
+use Rattle.layouts.specs.Layouts.{readOf}
+use Rattle.layouts.proofs.Laws.{read-fits, read-roomy}
+use Rattle.layouts.proofs.Layouts.{field-below, read-good}
 use Rattle.frames.specs.Frames.{nameFrame}
-use Rattle.frames.proofs.Laws.{read-fits, read-roomy}
-use Rattle.frames.proofs.Layouts.{field-below, read-good}
 use Rattle.index.specs.Good.{mostNames, mostPostings, largestId}
 use Rattle.postings.specs.Built.{Entry, noEntry, EntryFit, Fit, wordOf, tripleOf, triplesOf, allTriples}
 use Rattle.postings.proofs.Entries.{length-entries}
@@ -70,7 +70,7 @@ pub id-most : (count next : ℕ) (line : List ℕ) → judgeLine count next line
 id-most count next line z =
     let f = good-line count next line z .0 in
     let b = field-below nameFrame line 255 (readOf nameFrame line 255) refl 0 in
-    let e = ap (λ (r : Rattle.frames.specs.declared.Reading.Reading). getD (r .fields) 0 0) (read-good nameFrame line 255 f (read-fits nameFrame line f .short)) in
+    let e = ap (λ (r : Rattle.layouts.specs.declared.Reading.Reading). getD (r .fields) 0 0) (read-good nameFrame line 255 f (read-fits nameFrame line f .short)) in
     omega arith
 
 pub entry-fit : (count next : ℕ) (line : List ℕ) → judgeLine count next line ≡ 0 → EntryFit (entryOf line)

@@ -8,7 +8,7 @@ use lib.ListN.{length, getD, take, replicate}
 use lib.Dec.{eqb, leb, ltb}
 use Rattle.names.specs.Names.{judgeOf}
 use Rattle.names.specs.Features.{featuresOf}
-use Rattle.frames.specs.Layouts.{isFrame, fieldsIn, nameIn}
+use Rattle.layouts.specs.Layouts.{isFrame, fieldsIn, nameIn}
 use Rattle.frames.specs.Frames.{nameFrame}
 use Rattle.index.specs.Good.{mostNames}
 use Rattle.postings.specs.Built.{Entry, wordsOf}

@@ -22,7 +22,7 @@ use Rattle.words.specs.Words.{nameCount, nameId, nameSize}
 use Rattle.index.specs.Good.{goodOf, Good}
 use Rattle.postings.specs.Built.{wordsOf}
 use Rattle.lists.specs.Lists.{listIn, featuresIn}
-use Rattle.frames.specs.Layouts.{isFrame, nameIn, lineOf, readOf}
+use Rattle.layouts.specs.Layouts.{isFrame, nameIn, lineOf, readOf}
 use Rattle.frames.specs.Frames.{nameFrame, queryFrame, rowFrame, endFrame, refusalFrame, layouts, nameOut, queryOut, rowOut, endOut, refusalOut}
 use Rattle.frames.specs.declared.NameRead.{NameRead}
 use Rattle.frames.specs.declared.QueryRead.{QueryRead}

@@ -1,10 +1,10 @@
 -- The answers of the layers as the flat structs that C can take: every value under its name, 0 where a refusal has none.
--- Cited by every contract of the crate. What the answers are is in the specs of register, index, search and frames.
+-- Cited by every contract of the crate. What the answers are is in the specs of register, index, search, layouts and frames.
 -- Assumes nothing.
 use Prim.Native.Nat.{ℕ}
 use lib.ListN.{getD}
-use Rattle.frames.specs.declared.Reading.{Reading}
-use Rattle.frames.specs.declared.Written.{Written}
+use Rattle.layouts.specs.declared.Reading.{Reading}
+use Rattle.layouts.specs.declared.Written.{Written}
 use Rattle.lists.specs.Part.{Span}
 use Rattle.register.specs.declared.Built.{Built}
 use Rattle.search.specs.declared.Answer.{Answer}

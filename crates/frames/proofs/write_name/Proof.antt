@@ -1,8 +1,8 @@
 -- `write_name` meets its contract: a width of 0 adds nothing to the line.
 -- Assumes nothing.
 use borrow.Author.Needs.{needs}
-use Rattle.frames.specs.Numbers.{bytesFor}
-use Rattle.frames.specs.Layouts.{fieldBytes, lineOf, writtenOf, outOf}
+use Rattle.hex.specs.Numbers.{bytesFor}
+use Rattle.layouts.specs.Layouts.{fieldBytes, lineOf, writtenOf, outOf}
 use Rattle.frames.proofs.write_name.Statement.{statement}
 use Rattle.frames.proofs.write_name.Tie as tie
 

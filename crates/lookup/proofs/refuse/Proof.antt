@@ -5,7 +5,7 @@ use native.Mathlib.Omega.{arith}
 use borrow.Author.Needs.{needs}
 use lib.ListN.{length}
 use lib.Seq.{length-take-le}
-use Rattle.frames.specs.declared.Written.{Written}
+use Rattle.layouts.specs.declared.Written.{Written}
 use Rattle.answers.proofs.Text.{refusal-within}
 use Rattle.lookup.proofs.refuse.Statement.{statement}
 use Rattle.lookup.proofs.refuse.Tie as tie

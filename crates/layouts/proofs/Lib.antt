@@ -1,0 +1,3 @@
+pub mod Layouts
+pub mod Coded
+pub mod Laws
