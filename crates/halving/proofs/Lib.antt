@@ -1,2 +1,2 @@
 mod Digits
-mod Search
+pub mod Search

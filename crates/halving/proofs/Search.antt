@@ -2,18 +2,20 @@
 -- Assumes nothing.
 use mathlib.Core.Path.{_≡_, refl, sym, ap, _∙_}
 use mathlib.Core.Logic.{⊎-elim}
-use mathlib.Core.Bool.{Bool, true, false}
+use mathlib.Core.Bool.{Bool, true, false, _&&_}
 use mathlib.Core.List.{List}
-use Prim.Native.Nat.{ℕ, _≤_, _<_}
+use Prim.Native.Nat.{ℕ, _+_, _*_, _/_, _≤_, _<_}
 use native.Mathlib.Nat.{eq-or-lt-of-le}
 use native.Mathlib.Omega.{arith}
 use lib.ListN.{length, getD}
 use lib.Dec.{ltb, eqb}
-use borrow.Author.Tests.{lt-ltb, ltb-true, ltb-false, eqb-true, eqb-false}
+use borrow.Author.Tests.{lt-ltb, le-ltb, ltb-true, ltb-false, eqb-true, eqb-false}
 use Rattle.laws.specs.Lists.{member, Ascending, countOf}
 use Rattle.laws.proofs.Ascending.{ascending-at, member-getD, member-nowhere}
-use Rattle.laws.proofs.Halving.{Falling, falling-count, count-index}
+use Rattle.laws.proofs.Halving.{Falling, falling-count, count-index, count-below-place}
+use Rattle.laws.proofs.Lists.{length-tabulate, getD-tabulate}
 use Rattle.laws.proofs.Order.{le-or-lt}
+use Rattle.halving.specs.Rows.{seconds}
 
 -- whether the i-th of the list is below x
 abbrev pub belowAt : List ℕ → ℕ → ℕ → Bool
@@ -64,3 +66,37 @@ place-holds l x r a e h = by-test (eqb (getD l r 0) x) refl
 pub place-past : (l : List ℕ) (x r : ℕ) → Ascending l → r ≡ countOf (λ (y : ℕ). ltb y x) l → length l ≤ r → member x l ≡ false
 place-past l x r a e h =
     member-nowhere x l (λ i m q. let u = place-split l x r a e .1 i (omega arith) in omega arith)
+
+-- so x is in the list exactly where it stands at its place
+pub place-stands : (l : List ℕ) (x r : ℕ) → Ascending l → r ≡ countOf (λ (y : ℕ). ltb y x) l
+    → ltb r (length l) && eqb (getD l r 0) x ≡ member x l
+place-stands l x r a e =
+    ⊎-elim
+    (λ (h : length l ≤ r).
+    ap (λ (b : Bool). b && eqb (getD l r 0) x) (le-ltb r (length l) h) ∙ sym (place-past l x r a e h))
+    (λ (h : r < length l).
+    ap (λ (b : Bool). b && eqb (getD l r 0) x) (lt-ltb r (length l) h) ∙ place-holds l x r a e h)
+    (le-or-lt (length l) r)
+
+-- where x stands is its place
+pub place-met : (l : List ℕ) (x i : ℕ) → Ascending l → i < length l → getD l i 0 ≡ x → i ≡ countOf (λ (y : ℕ). ltb y x) l
+place-met l x i a h e =
+    sym
+    (count-index (λ (y : ℕ). ltb y x) l
+    ∙ count-below-place (belowAt l x) (length l) i (omega arith)
+    (λ j k. let u = ascending-at l a j i k h in lt-ltb (getD l j 0) x (omega arith))
+    (λ j k m.
+    ⊎-elim
+    (λ (q : i ≡ j). let u = ap (λ (n : ℕ). getD l n 0) q in le-ltb (getD l j 0) x (omega arith))
+    (λ (q : i < j). let u = ascending-at l a i j q m in le-ltb (getD l j 0) x (omega arith))
+    (eq-or-lt-of-le k)))
+
+-- ---- rows of four words
+
+pub length-seconds : (rows : List ℕ) → length (seconds rows) ≡ length rows / 4
+unfolding seconds
+length-seconds rows = length-tabulate (λ (i : ℕ). getD rows (4 * i + 1) 0) (length rows / 4)
+
+pub second-at : (rows : List ℕ) (i : ℕ) → i < length rows / 4 → getD (seconds rows) i 0 ≡ getD rows (4 * i + 1) 0
+unfolding seconds
+second-at rows i h = getD-tabulate (λ (k : ℕ). getD rows (4 * k + 1) 0) (length rows / 4) i 0 h

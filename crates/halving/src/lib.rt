@@ -1,9 +1,11 @@
 // Halving searches of ascending lists, and the powers of two that they go by. What is right is `countOf` and `member` of the crate laws.
 ghost use mathlib.Core.Path.{_≡_};
-ghost use mathlib.Core.Bool.{cond};
+ghost use mathlib.Core.Bool.{cond, _&&_};
 ghost use Prim.Native.Nat.{ℕ, _*_, _^_, _≤_, _<_};
-ghost use lib.Dec.{ltb};
+ghost use lib.ListN.{length, getD};
+ghost use lib.Dec.{ltb, eqb};
 ghost use Rattle.laws.specs.Lists.{member, Ascending, countOf};
+ghost use Rattle.halving.specs.Rows.{seconds};
 
 // 2 to the power of k.
 pub fn power(k: u32) -> usize
@@ -19,6 +21,13 @@ pub fn power_if(b: bool, k: u32) -> usize
     ensures { λ r. ⌜ r ≡ cond b (2 ^ k) 0 ⌝ }
 {
     (b as usize) << k
+}
+
+// 1 where b holds, and 0 otherwise.
+pub fn one_if(b: bool) -> usize
+    ensures { λ r. ⌜ r ≡ cond b 1 0 ⌝ }
+{
+    b as usize
 }
 
 // The place of the highest digit of a number above 0, counted from 0.
@@ -51,14 +60,56 @@ pub fn place_in(list: &[u32], x: u32) -> usize
     base
 }
 
+// Whether x stands at that place of a list; at no place past its end.
+pub fn stands_at(list: &[u32], at: usize, x: u32) -> bool
+    ensures { λ r. ⌜ r ≡ ltb at (length (now (list .entry))) && eqb (getD (now (list .entry)) at 0) x ⌝ }
+{
+    if at < list.len() {
+        return list[at] == x;
+    }
+    false
+}
+
 // Whether an ascending list holds the id.
 pub fn holds(list: &[u32], id: u32) -> bool
     requires { ⌜ Ascending (now list) ⌝ }
     ensures { λ r. ⌜ r ≡ member id (now (list .entry)) ⌝ }
 {
     let at = place_in(list, id);
-    if at < list.len() {
-        return list[at] == id;
+    stands_at(list, at, id)
+}
+
+// What place_in answers; where x stands at `guess`, nothing is searched.
+pub fn place_near(list: &[u32], x: u32, guess: usize) -> usize
+    requires { ⌜ Ascending (now list) ⌝ }
+    ensures { λ r. ⌜ r ≡ countOf (λ (y : ℕ). ltb y x) (now (list .entry)) ⌝ }
+{
+    if guess < list.len() {
+        if list[guess] == x {
+            return guess;
+        }
     }
-    false
+    place_in(list, x)
+}
+
+// How many rows of four words have a second word below x, where these ascend.
+pub fn place_in_rows(rows: &[u32], x: u32) -> usize
+    requires { ⌜ Ascending (seconds (now rows)) ⌝ }
+    ensures { λ r. ⌜ r ≡ countOf (λ (y : ℕ). ltb y x) (seconds (now (rows .entry))) ⌝ }
+{
+    let n = rows.len() / 4;
+    let mut k = highest(n + 1);
+    let rest = n + 1 - power(k);
+    let mut base: usize = 0;
+    if 0 < rest {
+        if rows[4 * (rest - 1) + 1] < x {
+            base = rest;
+        }
+    }
+    while 0 < k {
+        k -= 1;
+        let at = base + power(k) - 1;
+        base += power_if(rows[4 * at + 1] < x, k);
+    }
+    base
 }

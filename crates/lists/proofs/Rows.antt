@@ -63,7 +63,7 @@ module _ (w : List ℕ) (g : Good w) (fits : (i : ℕ) → getD w i 0 < 42949672
       (eq-or-lt-of-le l)
 
   -- a key is of one size and one feature
-  key-parts : (r y f : ℕ) → f < 4294967296 → rowKey w r ≡ keyOf y f → (rowSize w r ≡ y) × (rowFeature w r ≡ f)
+  pub key-parts : (r y f : ℕ) → f < 4294967296 → rowKey w r ≡ keyOf y f → (rowSize w r ≡ y) × (rowFeature w r ≡ f)
   unfolding rowKey
   key-parts r y f l e =
       let p = feature-word w fits r in
@@ -76,7 +76,7 @@ module _ (w : List ℕ) (g : Good w) (fits : (i : ℕ) → getD w i 0 < 42949672
   span-met y f r l m e = let p = key-parts r y f l e in ap (spanAt w) (row-for w g y f r m (p .0) (p .1))
 
   -- where no row has the key there is no such row
-  missing : (y f : ℕ) → ((r : ℕ) → r < rowCount w → rowKey w r ≡ keyOf y f → ⊥) → spanIn w y f ≡ none
+  pub missing : (y f : ℕ) → ((r : ℕ) → r < rowCount w → rowKey w r ≡ keyOf y f → ⊥) → spanIn w y f ≡ none
   unfolding spanIn rowKey
   missing y f n =
       ⊎-elim

@@ -1,28 +1,34 @@
--- The rows of a size stand together, and a search of them alone finds what a search of all rows finds.
+-- The rows of a size stand together, and a search of them alone finds the row of a feature.
 -- Cited by the proofs of `rows_of_size` and `place_among`.
 -- Assumes nothing.
-use mathlib.Core.Path.{_≡_, sym, ap, _∙_}
+use mathlib.Core.Path.{_≡_, refl, sym, ap, ap₂, _∙_}
 use mathlib.Core.Logic.{⊎-elim, inl, inr}
-use mathlib.Core.Bool.{Bool, true, false, cond}
+use mathlib.Core.Bool.{Bool, true, false, true≢false, cond}
 use mathlib.Core.List.{List}
-use Prim.Native.Nat.{ℕ, _+_, _-_, _*_, _≤_, _<_}
+use Prim.Native.Nat.{ℕ, _+_, _-_, _*_, _/_, _≤_, _<_}
 use native.Mathlib.Nat.{eq-or-lt-of-le}
 use native.Mathlib.Omega.{arith}
-use lib.ListN.{getD}
-use lib.Dec.{ltb}
-use borrow.Author.Tests.{lt-ltb, le-ltb, ltb-true, ltb-false}
+use lib.ListN.{length, getD, take, drop, length-drop}
+use lib.Seq.{length-take-le, getD-take, getD-drop}
+use lib.Dec.{ltb, eqb}
+use borrow.Author.Tests.{lt-ltb, le-ltb, ltb-true, ltb-false, eqb-true}
+use Rattle.laws.specs.Lists.{member, Ascending, countOf}
 use Rattle.laws.specs.Below.{countBelow}
+use Rattle.laws.proofs.Ascending.{ascending-of, member-getD, member-nowhere}
 use Rattle.laws.proofs.Below.{sum-below-ext, count-below-most, count-below-mono}
 use Rattle.laws.proofs.Halving.{Falling, Stretch, falling-count, count-below-place}
 use Rattle.laws.proofs.Order.{le-or-lt}
-use Rattle.words.specs.Words.{rowCount, rowSize, rowFeature, keyOf, rowKey}
+use Rattle.halving.specs.Rows.{seconds}
+use Rattle.halving.proofs.Search.{place-holds, place-past, length-seconds, second-at}
+use Rattle.words.specs.Words.{rowCount, rowSize, rowFeature, rowStart, keyOf, rowKey}
 use Rattle.words.proofs.Laws.{feature-word, size-word}
 use Rattle.index.specs.Good.{Good}
 use Rattle.index.proofs.Facts.{Before, good-facts}
-use Rattle.lists.specs.Part.{none}
-use Rattle.lists.specs.Lists.{spanIn}
-use Rattle.lists.specs.Sizes.{rowsUnder}
-use Rattle.lists.proofs.Rows.{keyBelow, key-falls, span-other, span-after}
+use Rattle.index.proofs.Laws.{good-within}
+use Rattle.lists.specs.Part.{cut, none}
+use Rattle.lists.specs.Lists.{spanAt, spanIn}
+use Rattle.lists.specs.Sizes.{rowsUnder, sizeSpan}
+use Rattle.lists.proofs.Rows.{keyBelow, key-falls, key-parts, span-met, missing}
 
 -- where the numbers before `from` pass and those from `to` on fail, only those between have to be asked
 count-among : (t : ℕ → Bool) (d from to : ℕ) → from ≤ to → to ≤ d → ((i : ℕ) → i < from → t i ≡ true)
@@ -126,39 +132,114 @@ module _ (w : List ℕ) (g : Good w) where
         ∙ sum-below-ext (rowCount w) (λ (r : ℕ). cond (ltb (rowKey w r) key) 1 0) (λ (r : ℕ). cond (ltb (rowSize w r) y) 1 0)
         (λ r h. ap (λ (b : Bool). cond b 1 0) (key-under y key r e))
 
-    -- a search of the size's rows finds what a search of all rows finds
-    pub among-found : (y f from to r d : ℕ) → f < 4294967296 → from ≡ rowsUnder w y → to ≡ rowsUnder w (y + 1) → d ≡ rowCount w
-        → r ≡ from + countBelow (to - from) (keyBelow w from (keyOf y f)) → r ≡ 0 + countBelow (d - 0) (keyBelow w 0 (keyOf y f))
-    unfolding rowKey
-    among-found y f from to r d l a b n e =
-        let m = under-most w (y + 1) in
-        let o = under-next w y in
-        let t : ℕ → Bool = λ (s : ℕ). ltb (rowKey w s) (keyOf y f) in
-        let some = count-among t d from to (omega arith) (omega arith) before after (key-falls w g fits from to (keyOf y f) (omega arith)) in
-        let all = count-among t d 0 d (omega arith) (omega arith) (λ i h. absurd (omega arith)) (λ i h k. absurd (omega arith))
-        (key-falls w g fits 0 d (keyOf y f) (omega arith)) in
-        e ∙ sym some ∙ all
-      where
-        before : (i : ℕ) → i < from → ltb (rowKey w i) (keyOf y f) ≡ true
-        before i h =
-            let s = size-under y i (omega arith) in
-            let u = feature-word w fits i in
-            lt-ltb (keyOf (rowSize w i) (rowFeature w i)) (keyOf y f) (omega arith)
+    -- ---- the size's rows as a part of the words
 
-        after : (i : ℕ) → to ≤ i → i < d → ltb (rowKey w i) (keyOf y f) ≡ false
-        after i h k =
-            let s = size-from (y + 1) i (omega arith) (omega arith) in
-            le-ltb (keyOf (rowSize w i) (rowFeature w i)) (keyOf y f) (omega arith)
+    module _ (y : ℕ) where
+      -- how many there are
+      abbrev pub many : ℕ
+      many = rowsUnder w (y + 1) - rowsUnder w y
 
-    past : (y f r : ℕ) → f < 4294967296 → rowsUnder w (y + 1) ≤ r → r < rowCount w → rowKey w r ≡ keyOf y f → ⊥
-    unfolding rowKey
-    past y f r h l m e = let s = size-from (y + 1) r l m in omega arith
+      -- their words
+      abbrev pub part : List ℕ
+      part = cut (sizeSpan w y) w
 
-    -- where the search comes to the end of the size's rows, no row has the size and the feature
-    pub among-none : (y f to r d : ℕ) → f < 4294967296 → to ≡ rowsUnder w (y + 1) → d ≡ rowCount w
-        → r ≡ 0 + countBelow (d - 0) (keyBelow w 0 (keyOf y f)) → to ≤ r → spanIn w y f ≡ none
-    among-none y f to r d h b n e l =
-        ⊎-elim
-        (λ (m : d ≤ r). span-after w g fits y f r d n e m)
-        (λ (m : r < d). span-other w g fits y f r d n e m (past y f r h (omega arith) (omega arith)))
-        (le-or-lt d r)
+      part-size : (r : ℕ) → rowsUnder w y ≤ r → r < rowsUnder w (y + 1) → rowSize w r ≡ y
+      part-size r l m =
+          let o = under-most w (y + 1) in
+          let a = size-from y r l (omega arith) in
+          let b = size-under (y + 1) r m in
+          omega arith
+
+      pub part-end : rowStart w (rowsUnder w (y + 1)) ≤ length w
+      part-end = let o = under-most w (y + 1) in let h = good-within w g in omega arith
+
+      pub length-part : length part ≡ 4 * many
+      unfolding sizeSpan
+      length-part =
+          let o = under-next w y in
+          let h = part-end in
+          let n = length-drop (rowStart w (rowsUnder w y)) w in
+          length-take-le (4 * many) (drop (rowStart w (rowsUnder w y)) w) (omega arith)
+
+      pub length-rows : length part / 4 ≡ many
+      length-rows = let n = length-part in omega arith
+
+      -- word k of the i-th of them
+      pub part-word : (i k v : ℕ) → i < many → k < 4 → v ≡ rowStart w (rowsUnder w y + i) + k → getD part (4 * i + k) 0 ≡ getD w v 0
+      unfolding sizeSpan
+      part-word i k v h l e =
+          let n : rowStart w (rowsUnder w y) + (4 * i + k) ≡ v = omega arith in
+          getD-take (4 * many) (drop (rowStart w (rowsUnder w y)) w) (4 * i + k) 0 (omega arith)
+          ∙ getD-drop (rowStart w (rowsUnder w y)) w (4 * i + k) 0
+          ∙ ap (λ (m : ℕ). getD w m 0) n
+
+      second-row : (i : ℕ) → i < many → getD (seconds part) i 0 ≡ rowFeature w (rowsUnder w y + i)
+      unfolding rowFeature
+      second-row i h = second-at part i (rw length-rows h) ∙ part-word i 1 (rowStart w (rowsUnder w y + i) + 1) h (omega arith) refl
+
+      pub seconds-ascend : Ascending (seconds part)
+      unfolding Before
+      seconds-ascend =
+          let n = length-seconds part ∙ length-rows in
+          let o = under-most w (y + 1) in
+          ascending-of (seconds part)
+          (λ i j l m.
+          let h : j < many = rw n at m in
+          let a = second-row i (omega arith) in
+          let b = second-row j h in
+          let p = part-size (rowsUnder w y + i) (omega arith) (omega arith) in
+          let q = part-size (rowsUnder w y + j) (omega arith) (omega arith) in
+          ⊎-elim
+          (λ (u : rowSize w (rowsUnder w y + i) < rowSize w (rowsUnder w y + j)). absurd (omega arith))
+          (λ u. let v = u .1 in (let z : getD (seconds part) i 0 < getD (seconds part) j 0 = omega arith in z))
+          (good-facts w g .rows .before (rowsUnder w y + i) (rowsUnder w y + j) (omega arith) (omega arith)))
+
+      -- a row of them that has the feature is the row sought
+      among-met : (f i : ℕ) → f < 4294967296 → i < many → rowFeature w (rowsUnder w y + i) ≡ f → spanIn w y f ≡ spanAt w (rowsUnder w y + i)
+      unfolding rowKey
+      among-met f i l h e =
+          let o = under-most w (y + 1) in
+          span-met w g fits y f (rowsUnder w y + i) l (omega arith) (ap₂ keyOf (part-size (rowsUnder w y + i) (omega arith) (omega arith)) e)
+
+      -- where none of them has the feature no row has the size and the feature
+      among-none : (f : ℕ) → f < 4294967296 → member f (seconds part) ≡ false → spanIn w y f ≡ none
+      among-none f l n =
+          missing w g fits y f
+          (λ r m e.
+          let p = key-parts w g fits r y f l e in
+          let s = p .0 in
+          ⊎-elim
+          (λ (a : rowsUnder w y ≤ r).
+          ⊎-elim
+          (λ (b : rowsUnder w (y + 1) ≤ r). let c = size-from (y + 1) r b m in omega arith)
+          (λ (b : r < rowsUnder w (y + 1)).
+          let i : rowsUnder w y + (r - rowsUnder w y) ≡ r = omega arith in
+          let h : r - rowsUnder w y < many = omega arith in
+          true≢false
+          (sym
+          (member-getD f (seconds part) (r - rowsUnder w y) (rw (length-seconds part ∙ length-rows) h)
+          (second-row (r - rowsUnder w y) h ∙ ap (rowFeature w) i ∙ p .1))
+          ∙ n))
+          (le-or-lt (rowsUnder w (y + 1)) r))
+          (λ (a : r < rowsUnder w y). let c = size-under y r a in omega arith)
+          (le-or-lt (rowsUnder w y) r))
+
+      pub among-empty : (f : ℕ) → f < 4294967296 → many ≡ 0 → spanIn w y f ≡ none
+      among-empty f l e =
+          let n = length-seconds part ∙ length-rows in
+          among-none f l (member-nowhere f (seconds part) (λ i h q. omega arith))
+
+      -- what a halving search of them tells
+      pub among : (f at row : ℕ) → f < 4294967296 → at ≡ countOf (λ (z : ℕ). ltb z f) (seconds part) → row < many → (at < many → row ≡ at)
+          → (b : Bool) → eqb (rowFeature w (rowsUnder w y + row)) f ≡ b → spanIn w y f ≡ cond b (spanAt w (rowsUnder w y + row)) none
+      among f at row l e h same true q = among-met f row l h (eqb-true (rowFeature w (rowsUnder w y + row)) f q)
+      among f at row l e h same false q =
+          let n = length-seconds part ∙ length-rows in
+          among-none f l
+          (⊎-elim
+          (λ (a : many ≤ at). place-past (seconds part) f at seconds-ascend e (rw n a))
+          (λ (a : at < many).
+          sym (place-holds (seconds part) f at seconds-ascend e (rw n a))
+          ∙ ap (λ (v : ℕ). eqb v f) (second-row at a ∙ ap (λ (i : ℕ). rowFeature w (rowsUnder w y + i)) (sym (same a)))
+          ∙ q)
+          (le-or-lt many at))

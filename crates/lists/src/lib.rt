@@ -1,13 +1,15 @@
 // The list of a size and a feature, and the rows of one size. The rule: docs/RULE.md, "Index words"; the definitions: specs/.
 ghost use mathlib.Core.Path.{_≡_};
-ghost use Prim.Native.Nat.{ℕ, _+_, _-_, _*_, _≤_, _<_};
-ghost use lib.Dec.{ltb};
+ghost use mathlib.Core.Bool.{cond};
+ghost use Prim.Native.Nat.{ℕ, _+_, _-_, _*_, _^_, _≤_, _<_};
+ghost use lib.ListN.{length, getD};
+ghost use lib.Dec.{ltb, eqb};
 ghost use Rattle.laws.specs.Below.{countBelow};
-ghost use Rattle.words.specs.Words.{rowCount, rowKey};
+ghost use Rattle.words.specs.Words.{rowCount, rowKey, postingsStart};
 ghost use Rattle.index.specs.Good.{Good};
-ghost use Rattle.lists.specs.Part.{Part};
+ghost use Rattle.lists.specs.Part.{cut, Part};
 ghost use Rattle.lists.specs.Lists.{spanIn, spanFor};
-ghost use Rattle.lists.specs.Sizes.{rowsUnder};
+ghost use Rattle.lists.specs.Sizes.{rowsUnder, sizeSpan};
 
 // The first row from `from` on, of those before `to`, whose size and feature as one number is not below the key; `to` where all are.
 pub fn rows_below(words: &[u32], from: usize, to: usize, key: u64) -> usize
@@ -84,13 +86,13 @@ pub fn list_for(words: &[u32], size: u32, feature: u64) -> &[u32]
 // ---- the lists of one size
 
 // The rows of a size: those from `from` on that stand before `to`.
-pub struct SizeRows {
-    pub from: usize,
-    pub to: usize,
+struct SizeRows {
+    from: usize,
+    to: usize,
 }
 
 // Where the rows of a size of a good index stand.
-pub fn rows_of_size(words: &[u32], size: u32) -> SizeRows
+fn bounds_of_size(words: &[u32], size: u32) -> SizeRows
     requires { ⌜ Good (now words) ⌝ }
     ensures { λ r. ⌜ (r .from ≡ rowsUnder (now (words .entry)) size) × (r .to ≡ rowsUnder (now (words .entry)) (size + 1)) ⌝ }
 {
@@ -103,23 +105,44 @@ pub fn rows_of_size(words: &[u32], size: u32) -> SizeRows
     SizeRows { from, to }
 }
 
-// What place_for_good finds, sought among the rows of the size alone.
-pub fn place_among(words: &[u32], from: usize, to: usize, size: u32, feature: u64) -> Place
-    requires { ⌜ Good (now words) × (from ≡ rowsUnder (now words) size) × (to ≡ rowsUnder (now words) (size + 1)) ⌝ }
+// The rows of a size of a good index, as that part of the words.
+pub fn rows_of_size(words: &[u32], size: u32) -> &[u32]
+    requires { ⌜ Good (now words) ⌝ }
+    ensures { λ l. ⌜ Part (words .entry) l (sizeSpan (now (words .entry)) size) ⌝ }
+{
+    let at = bounds_of_size(words, size);
+    let start = words::row_start(words, at.from);
+    let end = words::row_start(words, at.to);
+    &words[start..end]
+}
+
+// Where a row's list lies if the row has the feature, the postings starting at `first`; no words at 0 otherwise. There is no jump to guess.
+fn place_if(rows: &[u32], row: usize, first: usize, feature: u64) -> Place
+    requires { ⌜ (4 * row + 4 ≤ length (now rows)) × (first < 2 ^ 63) ⌝ }
+    ensures { λ p. ⌜ (p .start ≡ cond (eqb (getD (now (rows .entry)) (4 * row + 1) 0) feature) (first + getD (now (rows .entry)) (4 * row + 2) 0) 0) × (p .count ≡ cond (eqb (getD (now (rows .entry)) (4 * row + 1) 0) feature) (getD (now (rows .entry)) (4 * row + 3) 0) 0) ⌝ }
+{
+    let hit = halving::one_if(rows[4 * row + 1] as u64 == feature);
+    let start = first + rows[4 * row + 2] as usize;
+    let count = rows[4 * row + 3] as usize;
+    Place {
+        start: start * hit,
+        count: count * hit,
+    }
+}
+
+// What place_for_good finds, sought among the rows of the size alone; `first` is where the postings start.
+pub fn place_among(words: &[u32], rows: &[u32], first: usize, size: u32, feature: u64) -> Place
+    requires { ⌜ Good (now words) × (now rows ≡ cut (sizeSpan (now words) size) (now words)) × (first ≡ postingsStart (now words)) ⌝ }
     ensures { λ p. ⌜ (p .start ≡ spanIn (now (words .entry)) size feature .start) × (p .count ≡ spanIn (now (words .entry)) size feature .count) ⌝ }
 {
     if 0xFFFFFFFF < feature {
         return Place { start: 0, count: 0 };
     }
-    let key = size as u64 * 4294967296 + feature;
-    let row = rows_below(words, from, to, key);
-    if row < to {
-        if words::row_key(words, row) == key {
-            let start = words::row_start(words, words::row_count(words))
-                + words::row_place(words, row);
-            let count = words::row_length(words, row);
-            return Place { start, count };
-        }
+    let n = rows.len() / 4;
+    if n == 0 {
+        return Place { start: 0, count: 0 };
     }
-    Place { start: 0, count: 0 }
+    let at = halving::place_in_rows(rows, feature as u32);
+    let row = at - halving::one_if(at == n);
+    place_if(rows, row, first, feature)
 }

@@ -3,10 +3,10 @@ ghost use mathlib.Core.Path.{_≡_};
 ghost use mathlib.Core.List.{List, _++_, map};
 ghost use Prim.Native.Nat.{ℕ, _+_, _*_, _/_, _%_, _≤_, _<_, min};
 ghost use lib.ListN.{length, getD, take, drop};
-ghost use lib.Dec.{eqb, leb};
+ghost use lib.Dec.{eqb, leb, ltb};
 ghost use mathlib.Core.Bool.{true, cond};
 ghost use Rattle.likeness.specs.Measures.{goodMeasure, goodThreshold};
-ghost use Rattle.laws.specs.Lists.{Ascending, member, tabulate};
+ghost use Rattle.laws.specs.Lists.{Ascending, member, countOf, tabulate};
 ghost use Rattle.laws.specs.Sort.{sortOf};
 ghost use Rattle.laws.specs.Below.{countBelow};
 ghost use Rattle.names.specs.Names.{judgeOf};
@@ -32,6 +32,19 @@ pub enum Answer {
 
 // ---- one list against the tables by a name's place
 
+// The place of the name of an id, which the names have; where that is `guess`, nothing is searched.
+fn place_of(names: &[u32], id: u32, guess: usize) -> usize
+    requires { ⌜ Names (now names) × Ascending (now names) × (id * 256 < 4294967296) ⌝ }
+    ensures { λ r. ⌜ r ≡ countOf (λ (y : ℕ). ltb y (id * 256)) (now (names .entry)) ⌝ }
+{
+    if guess < names.len() {
+        if names[guess] / 256 == id {
+            return guess;
+        }
+    }
+    halving::place_in(names, id * 256)
+}
+
 // One more at each name that the list holds; a name that is met first is put behind those met. Answers how many are met.
 fn tally(
     names: &[u32],
@@ -45,9 +58,11 @@ fn tally(
     ensures { λ r. ⌜ (now (counts .exit) ≡ tallied (now (names .entry)) (now (list .entry)) (now (counts .entry))) × MetBy (now (counts .exit)) (now (met .exit)) r ⌝ }
 {
     let mut m = already;
+    let mut next = 0;
     let mut k = 0;
     while k < list.len() {
-        let i = halving::place_in(names, list[k] * 256);
+        let i = place_of(names, list[k], next);
+        next = i + 1;
         let count = counts[i];
         if count == 0 {
             met[m] = i;
@@ -59,15 +74,25 @@ fn tally(
     m
 }
 
-// The count after a test: one more where the list holds the id.
-fn counted(list: &[u32], id: u32, count: u32) -> u32
+// What a test of a candidate answers: its count after it, and where in the list the next candidate's id may stand.
+struct Tested {
+    count: u32,
+    next: usize,
+}
+
+// The count after a test: one more where the list holds the id, which may stand at `guess`.
+fn counted(list: &[u32], id: u32, count: u32, guess: usize) -> Tested
     requires { ⌜ Ascending (now list) × (count ≤ 65535) ⌝ }
-    ensures { λ r. ⌜ (r ≡ count + cond (member id (now (list .entry))) 1 0) × (r ≤ 65536) ⌝ }
+    ensures { λ r. ⌜ (r .count ≡ count + cond (member id (now (list .entry))) 1 0) × (r .count ≤ 65536) ⌝ }
 {
-    if halving::holds(list, id) {
-        return count + 1;
+    let at = halving::place_near(list, id, guess);
+    if halving::stands_at(list, at, id) {
+        return Tested {
+            count: count + 1,
+            next: at + 1,
+        };
     }
-    count
+    Tested { count, next: at }
 }
 
 // Tests each candidate against the list, and drops those that stay below `least` with `left` more. Answers how many remain.
@@ -85,10 +110,13 @@ fn sift(
     ensures { λ r. ⌜ (now (counts .exit) ≡ tested (now (names .entry)) (now (list .entry)) left least (now (counts .entry))) × MetBy (now (counts .exit)) (now (met .exit)) r ⌝ }
 {
     let mut m = 0;
+    let mut next = 0;
     let mut k = 0;
     while k < already {
         let i = met[k];
-        let count = counted(list, names[i] / 256, counts[i]);
+        let test = counted(list, names[i] / 256, counts[i], next);
+        let count = test.count;
+        next = test.next;
         k += 1;
         if count + left < least {
             counts[i] = 0;
@@ -134,13 +162,6 @@ fn keep(counts: &[u32], met: &[usize], m: usize, answers: &mut [u32])
 
 // ---- the lists of a size
 
-// 1 where b holds, and 0 otherwise.
-fn one_if(b: bool) -> usize
-    ensures { λ r. ⌜ r ≡ cond b 1 0 ⌝ }
-{
-    b as usize
-}
-
 // Where the features' lists at a size start, and the key of each: its length × 256 + its place among the features. Answers how many
 // of the lists have ids.
 fn find_lists(
@@ -155,14 +176,15 @@ fn find_lists(
     ensures { λ r. ⌜ r ≡ filledOf (now (words .entry)) size (now (features .entry)) (length (now (features .entry))) ⌝ }
 {
     let rows = lists::rows_of_size(words, size);
+    let first = words::row_start(words, words::row_count(words));
     let mut filled = 0;
     let mut j = 0;
     while j < features.len() {
-        let place = lists::place_among(words, rows.from, rows.to, size, features[j]);
+        let place = lists::place_among(words, rows, first, size, features[j]);
         let key = place.count as u64 * 256 + j as u64;
         starts[j] = place.start;
         keys[j] = key;
-        filled += one_if(255 < key);
+        filled += halving::one_if(255 < key);
         j += 1;
     }
     filled

@@ -1,74 +1,90 @@
--- `rows_of_size` meets its contract: two searches by keys without a feature, the second behind the first.
-use mathlib.Core.Path.{_≡_, refl, _∙_}
-use Prim.Native.Nat.{ℕ, _+_, _*_, _<_}
+-- `rows_of_size` meets its contract: the part from the first row's start to the last row's end.
+use mathlib.Core.Path.{_≡_, refl, sym, ap, ap₂, _∙_}
+use Prim.Native.Nat.{ℕ, _+_, _-_, _*_, _≤_, _<_}
 use native.Mathlib.Omega.{arith}
 use borrow.Author.Needs.{needs}
-use lib.ListN.{getD}
+use lib.ListN.{length, getD, take, drop}
+use Rattle.words.specs.Words.{rowStart}
 use Rattle.index.proofs.Laws.{good-three}
-use Rattle.lists.specs.Sizes.{rowsUnder}
-use Rattle.lists.proofs.Sized.{under-most, under-next, under-all, under-found}
+use Rattle.lists.specs.Sizes.{rowsUnder, sizeSpan}
+use Rattle.lists.proofs.Sized.{under-most, under-next, part-end}
+use Rattle.lists.proofs.Rows.{rows-most}
 use Rattle.lists.proofs.rows_of_size.Statement.{statement}
 use Rattle.lists.proofs.rows_of_size.Tie as tie
 
--- every word fits 32 bits
-word : (c : tie.After-shared-slice-known) → (i : ℕ) → getD (c .before .args .words .now) i 0 < 4294967296
-word c i = omega (arith, c .shared-slice-known .given i)
+-- where the rows start and end
+pub record Bounds (c : tie.After-row-start2) : Type 0 where
+  pub start : c .before .row-start .result ≡ rowStart (c .before .before .before .before .args .words .now) (rowsUnder (c .before .before .before .before .args .words .now) (c .before .before .before .before .args .size))
+  pub end : c .row-start2 .result ≡ rowStart (c .before .before .before .before .args .words .now) (rowsUnder (c .before .before .before .before .args .words .now) (c .before .before .before .before .args .size + 1))
+  pub order : rowsUnder (c .before .before .before .before .args .words .now) (c .before .before .before .before .args .size) ≤ rowsUnder (c .before .before .before .before .args .words .now) (c .before .before .before .before .args .size + 1)
+  pub within : c .row-start2 .result ≤ length (c .before .before .before .before .args .words .now)
 
-row-count-requires : tie.Need-row-count-requires
-row-count-requires c κs = good-three _ (c .before .pre)
+bounds : (c : tie.After-row-start2) → Bounds c
+bounds c =
+    let s = c .before .before .before .before in
+    let w = s .args .words .now in
+    let b = c .before .before .bounds-of-size .ensures in
+    let n : c .row-start2 .result ≡ rowStart w (rowsUnder w (s .args .size + 1)) = c .row-start2 .ensures .0 ∙ ap (rowStart w) (b .1) in
+    let e = part-end w (s .pre) (λ i. omega (arith, c .before .before .before .shared-slice-known .given i)) (s .args .size) in
+    record {
+      start = c .before .row-start .ensures .0 ∙ ap (rowStart w) (b .0);
+      end = n;
+      order = under-next w (s .args .size);
+      within = omega arith;
+    }
 
-mul-rows-below : tie.Need-mul-rows-below
-mul-rows-below c = search needs
+bounds-of-size-requires : tie.Need-bounds-of-size-requires
+bounds-of-size-requires c κs = search needs
 
-rows-below-requires : tie.Need-rows-below-requires
-rows-below-requires c κs = search needs
+row-start-requires : tie.Need-row-start-requires
+row-start-requires c κs =
+    let s = c .before .before in
+    let m = under-most (s .args .words .now) (s .args .size) in
+    let n = rows-most (s .args .words .now) (s .pre) in
+    let e = c .bounds-of-size .ensures .0 in
+    (good-three _ (s .pre), omega arith)
 
--- where the first search ends
-first : (c : tie.After-rows-below) → c .rows-below .result ≡ rowsUnder (c .before .before .before .args .words .now) (c .before .before .before .args .size)
-first c =
+row-start-requires-2 : tie.Need-row-start-requires-2
+row-start-requires-2 c κs =
     let s = c .before .before .before in
-    c .rows-below .ensures
-    ∙ under-found (s .args .words .now) (s .pre) (word (c .before .before)) (s .args .size) (s .args .size * 4294967296) 0 (c .before .row-count .result) refl (c .before .row-count .ensures .0) (omega arith)
+    let m = under-most (s .args .words .now) (s .args .size + 1) in
+    let n = rows-most (s .args .words .now) (s .pre) in
+    let e = c .before .bounds-of-size .ensures .1 in
+    (good-three _ (s .pre), omega arith)
+
+mul-result : tie.Need-mul-result
+mul-result c = let b = bounds c in let s = b .start in let e = b .end in let o = b .order in let w = b .within in omega arith
+
+sub-result : tie.Need-sub-result
+sub-result c = let b = bounds c in let s = b .start in let e = b .end in let o = b .order in let w = b .within in omega arith
+
+part-result-start : tie.Need-part-result-start
+part-result-start c = let b = bounds c in let s = b .start in let e = b .end in let o = b .order in let w = b .within in omega arith
+
+part-result-end : tie.Need-part-result-end
+part-result-end c = let b = bounds c in let s = b .start in let e = b .end in let o = b .order in let w = b .within in omega arith
 
 returns : tie.Need-returns
+unfolding sizeSpan
 returns c =
-    let s = c .before .before .before .before in
-    (first (c .before), c .before .before .row-count .ensures .0 ∙ under-all (s .args .words .now) (s .pre) (word (c .before .before .before)) (s .args .size) (c .if1 .taken))
-
-add-rows-below : tie.Need-add-rows-below
-add-rows-below c = search needs
-
-mul-rows-below-2 : tie.Need-mul-rows-below-2
-mul-rows-below-2 c = search needs
-
-rows-below-requires-2 : tie.Need-rows-below-requires-2
-rows-below-requires-2 c κs =
-    let s = c .before .before .before .before in
-    let e = first (c .before) in
-    let m = under-most (s .args .words .now) (s .args .size) in
-    let n = c .before .before .row-count .ensures .0 in
-    (s .pre, omega arith, omega arith)
-
-returns-2 : tie.Need-returns-2
-returns-2 c =
     let s = c .before .before .before .before .before in
-    let e = first (c .before .before) in
-    let m = under-next (s .args .words .now) (s .args .size) in
-    let r = c .before .before .before .row-count in (
-      e,
-      c .rows-below2 .ensures
-          ∙ under-found (s .args .words .now) (s .pre) (word (c .before .before .before .before)) (s .args .size + 1) ((s .args .size + 1) * 4294967296) (c .before .before .rows-below .result) (r .result) refl (r .ensures .0) (omega arith),
-    )
+    let w = s .args .words .now in
+    let b = bounds (c .before) in
+    let st = b .start in
+    let en = b .end in
+    let o = b .order in
+    let n : c .before .row-start2 .result - c .before .before .row-start .result ≡ 4 * (rowsUnder w (s .args .size + 1) - rowsUnder w (s .args .size)) = omega arith in
+    record { words = ap₂ (λ (k m : ℕ). take m (drop k w)) st n; block = refl; place = rw st (search needs) }
 
 pub rows-of-size-spec : {M : Type 1} → statement M
 rows-of-size-spec =
     tie.close
     (tie.spec
-    row-count-requires
-    mul-rows-below
-    rows-below-requires
-    returns
-    add-rows-below
-    mul-rows-below-2
-    rows-below-requires-2
-    returns-2)
+    bounds-of-size-requires
+    row-start-requires
+    row-start-requires-2
+    mul-result
+    sub-result
+    part-result-start
+    part-result-end
+    returns)

@@ -13,11 +13,11 @@ use Rattle.search.proofs.sift.Statement.{statement}
 use Rattle.search.proofs.sift.Tie as tie
 
 abbrev Inv-loop : tie.InvT-loop
-Inv-loop names list counts₀ met₀ already left least m₀ k₀ counts met m k =
+Inv-loop names list counts₀ met₀ already left least m₀ next₀ k₀ counts met m next k =
     Testing names list left least counts₀ met₀ already counts met m k
 
 abbrev μ-loop : tie.MeasureT-loop
-μ-loop names list counts₀ met₀ already left least m₀ k₀ counts met m k = already - k
+μ-loop names list counts₀ met₀ already left least m₀ next₀ k₀ counts met m next k = already - k
 
 -- the candidate of this turn, and what is known of its place and count
 pub record Turn (c : tie.In-loop Inv-loop μ-loop) : Type 0 where
@@ -94,11 +94,11 @@ loop-again c =
     let b = l .before .before .before .before .before in
     let t = turn d in
     let i = getD (l .loop .met) (l .loop .k) 0 in
-    let v : c .before .counted .result ≡ getD (b .args .counts .now) i 0 + cond (member (idAt (b .args .names .now) i) (b .args .list .now)) 1 0 =
+    let v : c .before .counted .result .count ≡ getD (b .args .counts .now) i 0 + cond (member (idAt (b .args .names .now) i) (b .args .list .now)) 1 0 =
     c .before .counted .ensures .0 ∙ ap (λ (x : ℕ). x + cond (member (idAt (b .args .names .now) i) (b .args .list .now)) 1 0) (t .was)
     in
     subst (λ (j : ℕ). Testing (b .args .names .now) (b .args .list .now) (b .args .left) (b .args .least) (b .args .counts .now) (b .args .met .now) (b .args .already) (set (l .loop .counts) j 0) (l .loop .met) (l .loop .m) (l .loop .k + 1)) (sym (t .next))
-    (testing-drops (b .args .names .now) (b .args .list .now) (b .args .left) (b .args .least) (b .args .counts .now) (b .args .met .now) (b .args .already) (b .pre .1 .2) (l .loop .counts) (l .loop .met) (l .loop .m) (l .loop .k) (l .loop .inv) (d .loop-test .taken) (ap (testedAt (b .args .names .now) (b .args .list .now) (b .args .left) (b .args .least) (b .args .counts .now)) (sym (t .next)) ∙ tested-drops (b .args .names .now) (b .args .list .now) (b .args .left) (b .args .least) (b .args .counts .now) i (c .before .counted .result) (t .name) (t .one) v (c .if1 .taken)))
+    (testing-drops (b .args .names .now) (b .args .list .now) (b .args .left) (b .args .least) (b .args .counts .now) (b .args .met .now) (b .args .already) (b .pre .1 .2) (l .loop .counts) (l .loop .met) (l .loop .m) (l .loop .k) (l .loop .inv) (d .loop-test .taken) (ap (testedAt (b .args .names .now) (b .args .list .now) (b .args .left) (b .args .least) (b .args .counts .now)) (sym (t .next)) ∙ tested-drops (b .args .names .now) (b .args .list .now) (b .args .left) (b .args .least) (b .args .counts .now) i (c .before .counted .result .count) (t .name) (t .one) v (c .if1 .taken)))
 
 mul-counts-2 : tie.Need-mul-counts-2 Inv-loop μ-loop
 mul-counts-2 c = let t = turn (c .before .before .before .before .before) in omega arith
@@ -125,12 +125,12 @@ loop-again-2 c =
     let b = l .before .before .before .before .before in
     let t = turn d in
     let i = getD (l .loop .met) (l .loop .k) 0 in
-    let v : c .before .counted .result ≡ getD (b .args .counts .now) i 0 + cond (member (idAt (b .args .names .now) i) (b .args .list .now)) 1 0 =
+    let v : c .before .counted .result .count ≡ getD (b .args .counts .now) i 0 + cond (member (idAt (b .args .names .now) i) (b .args .list .now)) 1 0 =
     c .before .counted .ensures .0 ∙ ap (λ (x : ℕ). x + cond (member (idAt (b .args .names .now) i) (b .args .list .now)) 1 0) (t .was)
     in
-    subst (λ (j : ℕ). Testing (b .args .names .now) (b .args .list .now) (b .args .left) (b .args .least) (b .args .counts .now) (b .args .met .now) (b .args .already) (set (l .loop .counts) j (c .before .counted .result)) (set (l .loop .met) (l .loop .m) j) (l .loop .m + 1) (l .loop .k + 1)) (sym (t .next))
-    (testing-keeps (b .args .names .now) (b .args .list .now) (b .args .left) (b .args .least) (b .args .counts .now) (b .args .met .now) (b .args .already) (b .pre .1 .2) (l .loop .counts) (l .loop .met) (l .loop .m) (l .loop .k) (l .loop .inv) (d .loop-test .taken) (c .before .counted .result)
-    (sym (ap (testedAt (b .args .names .now) (b .args .list .now) (b .args .left) (b .args .least) (b .args .counts .now)) (sym (t .next)) ∙ tested-stays (b .args .names .now) (b .args .list .now) (b .args .left) (b .args .least) (b .args .counts .now) i (c .before .counted .result) (t .name) (t .one) v (c .if1 .left)))
+    subst (λ (j : ℕ). Testing (b .args .names .now) (b .args .list .now) (b .args .left) (b .args .least) (b .args .counts .now) (b .args .met .now) (b .args .already) (set (l .loop .counts) j (c .before .counted .result .count)) (set (l .loop .met) (l .loop .m) j) (l .loop .m + 1) (l .loop .k + 1)) (sym (t .next))
+    (testing-keeps (b .args .names .now) (b .args .list .now) (b .args .left) (b .args .least) (b .args .counts .now) (b .args .met .now) (b .args .already) (b .pre .1 .2) (l .loop .counts) (l .loop .met) (l .loop .m) (l .loop .k) (l .loop .inv) (d .loop-test .taken) (c .before .counted .result .count)
+    (sym (ap (testedAt (b .args .names .now) (b .args .list .now) (b .args .left) (b .args .least) (b .args .counts .now)) (sym (t .next)) ∙ tested-stays (b .args .names .now) (b .args .list .now) (b .args .left) (b .args .least) (b .args .counts .now) i (c .before .counted .result .count) (t .name) (t .one) v (c .if1 .left)))
     (let o = t .one in omega arith))
 
 same-length : tie.Need-same-length Inv-loop μ-loop

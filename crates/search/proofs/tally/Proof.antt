@@ -16,11 +16,11 @@ use Rattle.search.proofs.tally.Statement.{statement}
 use Rattle.search.proofs.tally.Tie as tie
 
 abbrev Inv-loop : tie.InvT-loop
-Inv-loop names list counts₀ met₀ already m₀ k₀ counts met m k =
+Inv-loop names list counts₀ met₀ already m₀ next₀ k₀ counts met m next k =
     (k ≤ length list) × (length counts ≡ mostNames) × (length met ≡ mostNames) × (counts ≡ tallied names (take k list) counts₀) × MetBy counts met m
 
 abbrev μ-loop : tie.MeasureT-loop
-μ-loop names list counts₀ met₀ already m₀ k₀ counts met m k = length list - k
+μ-loop names list counts₀ met₀ already m₀ next₀ k₀ counts met m next k = length list - k
 
 -- the posting's name
 named : (c : tie.In-loop Inv-loop μ-loop) → (i : ℕ) × (i < length (c .before .before .before .before .before .before .args .names .now)) × (idAt (c .before .before .before .before .before .before .args .names .now) i ≡ getD (c .before .before .before .before .before .before .args .list .now) (c .before .loop .k) 0)
@@ -29,13 +29,13 @@ named c =
     b .pre .0 .3 (getD (b .args .list .now) (c .before .loop .k) 0) (member-at (b .args .list .now) (c .before .loop .k) (c .loop-test .taken))
 
 -- where it is found
-placed : (c : tie.After-place-in Inv-loop μ-loop) → c .place-in .result ≡ named (c .before .before) .0
+placed : (c : tie.After-place-of Inv-loop μ-loop) → c .place-of .result ≡ named (c .before .before) .0
 placed c =
     let b = c .before .before .before .before .before .before .before .before in
     let w = named (c .before .before) in
-    c .place-in .ensures ∙ name-place (b .args .names .now) (b .pre .0 .0) (w .0) (getD (b .args .list .now) (c .before .before .before .loop .k) 0) (w .1) (w .2)
+    c .place-of .ensures ∙ name-place (b .args .names .now) (b .pre .0 .0) (w .0) (getD (b .args .list .now) (c .before .before .before .loop .k) 0) (w .1) (w .2)
 
-within : (c : tie.After-place-in Inv-loop μ-loop) → (c .place-in .result < mostNames) × (c .place-in .result < length (c .before .before .before .before .before .before .before .before .args .names .now)) × (idAt (c .before .before .before .before .before .before .before .before .args .names .now) (c .place-in .result) ≡ getD (c .before .before .before .before .before .before .before .before .args .list .now) (c .before .before .before .loop .k) 0)
+within : (c : tie.After-place-of Inv-loop μ-loop) → (c .place-of .result < mostNames) × (c .place-of .result < length (c .before .before .before .before .before .before .before .before .args .names .now)) × (idAt (c .before .before .before .before .before .before .before .before .args .names .now) (c .place-of .result) ≡ getD (c .before .before .before .before .before .before .before .before .args .list .now) (c .before .before .before .loop .k) 0)
 within c =
     let b = c .before .before .before .before .before .before .before .before in
     let w = named (c .before .before) in
@@ -54,16 +54,16 @@ small c i =
 room : (c : tie.Then1 Inv-loop μ-loop) → c .before .before .before .before .before .loop .m < mostNames
 room c =
     let l = c .before .before .before .before .before in
-    met-room (l .loop .counts) (l .loop .met) (l .loop .m) (c .before .before .place-in .result) (l .loop .inv .4) (l .loop .inv .1) (within (c .before .before) .0) (c .if1 .taken)
+    met-room (l .loop .counts) (l .loop .met) (l .loop .m) (c .before .before .place-of .result) (l .loop .inv .4) (l .loop .inv .1) (within (c .before .before) .0) (c .if1 .taken)
 
 -- the counts after the posting
-counted : (c : tie.Joined1 Inv-loop μ-loop) → set (c .before .before .before .before .before .loop .counts) (c .before .before .place-in .result) (getD (c .before .before .before .before .before .loop .counts) (c .before .before .place-in .result) 0 + 1) ≡ tallied (c .before .before .before .before .before .before .before .before .before .before .args .names .now) (take (c .before .before .before .before .before .loop .k + 1) (c .before .before .before .before .before .before .before .before .before .before .args .list .now)) (c .before .before .before .before .before .before .before .before .before .before .args .counts .now)
+counted : (c : tie.Joined1 Inv-loop μ-loop) → set (c .before .before .before .before .before .loop .counts) (c .before .before .place-of .result) (getD (c .before .before .before .before .before .loop .counts) (c .before .before .place-of .result) 0 + 1) ≡ tallied (c .before .before .before .before .before .before .before .before .before .before .args .names .now) (take (c .before .before .before .before .before .loop .k + 1) (c .before .before .before .before .before .before .before .before .before .before .args .list .now)) (c .before .before .before .before .before .before .before .before .before .before .args .counts .now)
 counted c =
     let l = c .before .before .before .before .before in
     let b = l .before .before .before .before .before in
     let w = within (c .before .before) in
-    ap (λ (t : List ℕ). set t (c .before .before .place-in .result) (getD t (c .before .before .place-in .result) 0 + 1)) (l .loop .inv .3)
-    ∙ tallied-step (b .args .names .now) (b .args .list .now) (b .args .counts .now) (b .pre .0 .0) (l .loop .k) (c .before .before .place-in .result) (c .before .before .before .before .loop-test .taken)
+    ap (λ (t : List ℕ). set t (c .before .before .place-of .result) (getD t (c .before .before .place-of .result) 0 + 1)) (l .loop .inv .3)
+    ∙ tallied-step (b .args .names .now) (b .args .list .now) (b .args .counts .now) (b .pre .0 .0) (l .loop .k) (c .before .before .place-of .result) (c .before .before .before .before .loop-test .taken)
     (distinct-fresh (b .args .list .now) (l .loop .k) (ascending-distinct (b .args .list .now) (b .pre .0 .2)) (c .before .before .before .before .loop-test .taken))
     (w .1) (w .2)
 
@@ -72,21 +72,22 @@ loop-holds c =
     let b = c .before .before .before .before in
     (omega arith, b .pre .1 .0, b .pre .1 .1, sym (tallied-nil (b .args .names .now) (b .args .list .now) (b .args .counts .now) (b .pre .1 .0)), b .pre .1 .2)
 
-mul-place-in : tie.Need-mul-place-in Inv-loop μ-loop
-mul-place-in c = omega arith
+mul-place-of : tie.Need-mul-place-of Inv-loop μ-loop
+mul-place-of c = omega arith
 
-shared-slice-read-place-in : tie.Need-shared-slice-read-place-in Inv-loop μ-loop
-shared-slice-read-place-in c = omega arith
+shared-slice-read-place-of : tie.Need-shared-slice-read-place-of Inv-loop μ-loop
+shared-slice-read-place-of c = omega arith
 
-mul-place-in-2 : tie.Need-mul-place-in-2 Inv-loop μ-loop
-mul-place-in-2 c =
+place-of-requires : tie.Need-place-of-requires Inv-loop μ-loop
+place-of-requires c κs =
+    let b = c .before .before .before .before .before .before .before in
     let w = named (c .before) in
     let f = c .before .before .before .before .before .before .shared-slice-known .given (w .0) in
     let e = w .2 in
-    omega arith
+    (b .pre .0 .0, b .pre .0 .1, omega arith)
 
-place-in-requires : tie.Need-place-in-requires Inv-loop μ-loop
-place-in-requires c κs = c .before .before .before .before .before .before .before .pre .0 .1
+add-next : tie.Need-add-next Inv-loop μ-loop
+add-next c = let l = within c .0 in omega arith
 
 mul-count : tie.Need-mul-count Inv-loop μ-loop
 mul-count c = let w = within c in let l = w .0 in omega arith
@@ -104,7 +105,7 @@ add-m : tie.Need-add-m Inv-loop μ-loop
 add-m c = let r = room c in omega arith
 
 add-counts : tie.Need-add-counts Inv-loop μ-loop
-add-counts c = let s = small (c .before .before .before .before .before) (c .before .before .place-in .result) in omega arith
+add-counts c = let s = small (c .before .before .before .before .before) (c .before .before .place-of .result) in omega arith
 
 mul-counts : tie.Need-mul-counts Inv-loop μ-loop
 mul-counts c = let w = within (c .before .before) in let l = w .0 in omega arith
@@ -121,7 +122,7 @@ loop-less c = omega arith
 loop-again : tie.Need-loop-again Inv-loop μ-loop
 loop-again c =
     let l = c .before .before .before .before .before in
-    let i = c .before .before .place-in .result in
+    let i = c .before .before .place-of .result in
     let w = within (c .before .before) in
     let v = getD (l .loop .counts) i 0 + 1 in
     ⊎-elim
@@ -162,10 +163,10 @@ tally-spec =
     Inv-loop
     μ-loop
     loop-holds
-    mul-place-in
-    shared-slice-read-place-in
-    mul-place-in-2
-    place-in-requires
+    mul-place-of
+    shared-slice-read-place-of
+    place-of-requires
+    add-next
     mul-count
     slice-read-count
     mul-met

@@ -2,9 +2,8 @@
 use mathlib.Core.Path.{_≡_, refl}
 use mathlib.Core.Bool.{Bool, true, false, cond}
 use borrow.Author.Needs.{needs}
-use Prim.Native.Nat.{ℕ}
-use Rattle.search.proofs.one_if.Statement.{statement}
-use Rattle.search.proofs.one_if.Tie as tie
+use Rattle.halving.proofs.one_if.Statement.{statement}
+use Rattle.halving.proofs.one_if.Tie as tie
 
 by-test : (b : Bool) → mir.Val.boolByte b ≡ cond b 1 0
 by-test true = refl
