@@ -30,34 +30,6 @@ use Rattle.lists.specs.Lists.{spanAt, spanIn}
 use Rattle.lists.specs.Sizes.{rowsUnder, sizeSpan}
 use Rattle.lists.proofs.Rows.{keyBelow, key-falls, key-parts, span-met, missing}
 
--- where the numbers before `from` pass and those from `to` on fail, only those between have to be asked
-count-among : (t : ℕ → Bool) (d from to : ℕ) → from ≤ to → to ≤ d → ((i : ℕ) → i < from → t i ≡ true)
-    → ((i : ℕ) → to ≤ i → i < d → t i ≡ false) → Falling (λ (i : ℕ). t (from + i)) (to - from)
-    → countBelow d t ≡ from + countBelow (to - from) (λ (i : ℕ). t (from + i))
-count-among t d from to l m first last falls =
-    let h = known .within in
-    count-below-place t d (from + count) (omega arith) below above
-  where
-    count : ℕ
-    count = countBelow (to - from) (λ (i : ℕ). t (from + i))
-
-    known : Stretch (λ (i : ℕ). t (from + i)) (to - from) count 0
-    known = falling-count (λ (i : ℕ). t (from + i)) (to - from) falls
-
-    below : (i : ℕ) → i < from + count → t i ≡ true
-    below i p =
-        ⊎-elim
-        (λ (q : from ≤ i). let e : from + (i - from) ≡ i = omega arith in ap t (sym e) ∙ known .below (i - from) (omega arith))
-        (λ (q : i < from). first i q)
-        (le-or-lt from i)
-
-    above : (i : ℕ) → from + count ≤ i → i < d → t i ≡ false
-    above i p r =
-        ⊎-elim
-        (λ (q : to ≤ i). last i q r)
-        (λ (q : i < to). let e : from + (i - from) ≡ i = omega arith in ap t (sym e) ∙ known .above (i - from) (omega arith) (omega arith))
-        (le-or-lt to i)
-
 pub under-most : (w : List ℕ) (y : ℕ) → rowsUnder w y ≤ rowCount w
 unfolding rowsUnder
 under-most w y = count-below-most (rowCount w) (λ (r : ℕ). ltb (rowSize w r) y)
@@ -82,14 +54,16 @@ module _ (w : List ℕ) (g : Good w) where
       by-order (inl a) = omega arith
       by-order (inr a) = let e = a .0 in omega arith
 
-  under : (y : ℕ) → Stretch (λ (r : ℕ). ltb (rowSize w r) y) (rowCount w) (rowsUnder w y) 0
-  unfolding rowsUnder
-  under y =
-      falling-count (λ (r : ℕ). ltb (rowSize w r) y) (rowCount w)
-      (λ i j l m e.
+  -- rows below a size come first
+  pub sizes-fall : (y : ℕ) → Falling (λ (r : ℕ). ltb (rowSize w r) y) (rowCount w)
+  sizes-fall y i j l m e =
       let a = ltb-true (rowSize w j) y e in
       let b = size-rises i j l m in
-      lt-ltb (rowSize w i) y (omega arith))
+      lt-ltb (rowSize w i) y (omega arith)
+
+  under : (y : ℕ) → Stretch (λ (r : ℕ). ltb (rowSize w r) y) (rowCount w) (rowsUnder w y) 0
+  unfolding rowsUnder
+  under y = falling-count (λ (r : ℕ). ltb (rowSize w r) y) (rowCount w) (sizes-fall y)
 
   pub size-under : (y r : ℕ) → r < rowsUnder w y → rowSize w r < y
   size-under y r l = ltb-true (rowSize w r) y (under y .below r l)
@@ -98,40 +72,6 @@ module _ (w : List ℕ) (g : Good w) where
   size-from y r l m = let h = ltb-false (rowSize w r) y (under y .above r (omega arith) m) in omega arith
 
   module _ (fits : (i : ℕ) → getD w i 0 < 4294967296) where
-    -- every size is below 2 ^ 32
-    pub under-all : (y : ℕ) → y ≡ 4294967295 → rowCount w ≡ rowsUnder w (y + 1)
-    unfolding rowsUnder
-    under-all y e =
-        sym
-        (count-below-place (λ (r : ℕ). ltb (rowSize w r) (y + 1)) (rowCount w) (rowCount w) (omega arith)
-        (λ r l. let h = size-word w fits r in lt-ltb (rowSize w r) (y + 1) (omega arith))
-        (λ r l m. absurd (omega arith)))
-
-    -- rows whose key is below that of the size without a feature have a size below
-    key-under : (y key r : ℕ) → key ≡ y * 4294967296 → ltb (rowKey w r) key ≡ ltb (rowSize w r) y
-    unfolding rowKey
-    key-under y key r e =
-        let f = feature-word w fits r in
-        ⊎-elim
-        (λ (l : y ≤ rowSize w r). le-ltb (keyOf (rowSize w r) (rowFeature w r)) key (omega arith) ∙ sym (le-ltb (rowSize w r) y l))
-        (λ (l : rowSize w r < y). lt-ltb (keyOf (rowSize w r) (rowFeature w r)) key (omega arith) ∙ sym (lt-ltb (rowSize w r) y l))
-        (le-or-lt y (rowSize w r))
-
-    -- what the search of the rows from `from` on tells
-    pub under-found : (y key from d : ℕ) → key ≡ y * 4294967296 → d ≡ rowCount w → from ≤ rowsUnder w y
-        → from + countBelow (d - from) (keyBelow w from key) ≡ rowsUnder w y
-    unfolding rowsUnder
-    under-found y key from d e n l =
-        let m = under-most w y in
-        let c = count-among (λ (r : ℕ). ltb (rowKey w r) key) d from d (omega arith) (omega arith)
-        (λ i h. key-under y key i e ∙ under y .below i (omega arith))
-        (λ i h k. absurd (omega arith))
-        (key-falls w g fits from d key (omega arith)) in
-        sym c
-        ∙ ap (λ (k : ℕ). countBelow k (λ (r : ℕ). ltb (rowKey w r) key)) n
-        ∙ sum-below-ext (rowCount w) (λ (r : ℕ). cond (ltb (rowKey w r) key) 1 0) (λ (r : ℕ). cond (ltb (rowSize w r) y) 1 0)
-        (λ r h. ap (λ (b : Bool). cond b 1 0) (key-under y key r e))
-
     -- ---- the size's rows as a part of the words
 
     module _ (y : ℕ) where

@@ -85,34 +85,37 @@ pub fn list_for(words: &[u32], size: u32, feature: u64) -> &[u32]
 
 // ---- the lists of one size
 
-// The rows of a size: those from `from` on that stand before `to`.
-struct SizeRows {
-    from: usize,
-    to: usize,
-}
-
-// Where the rows of a size of a good index stand.
-fn bounds_of_size(words: &[u32], size: u32) -> SizeRows
+// How many rows have a size below: where the rows of the size begin.
+fn rows_under(words: &[u32], size: u64) -> usize
     requires { ⌜ Good (now words) ⌝ }
-    ensures { λ r. ⌜ (r .from ≡ rowsUnder (now (words .entry)) size) × (r .to ≡ rowsUnder (now (words .entry)) (size + 1)) ⌝ }
+    ensures { λ r. ⌜ r ≡ rowsUnder (now (words .entry)) size ⌝ }
 {
-    let all = words::row_count(words);
-    let from = rows_below(words, 0, all, size as u64 * 4294967296);
-    if size == 4294967295 {
-        return SizeRows { from, to: all };
+    let n = words::row_count(words);
+    let mut k = halving::highest(n + 1);
+    let rest = n + 1 - halving::power(k);
+    let mut base: usize = 0;
+    if 0 < rest {
+        if (words::row_size(words, rest - 1) as u64) < size {
+            base = rest;
+        }
     }
-    let to = rows_below(words, from, all, (size as u64 + 1) * 4294967296);
-    SizeRows { from, to }
+    while 0 < k {
+        k -= 1;
+        let at = base + halving::power(k) - 1;
+        base += halving::power_if((words::row_size(words, at) as u64) < size, k);
+    }
+    base
 }
 
-// The rows of a size of a good index, as that part of the words.
+// The rows of a size of a good index, as that part of the words. Neither search waits for the other.
 pub fn rows_of_size(words: &[u32], size: u32) -> &[u32]
     requires { ⌜ Good (now words) ⌝ }
     ensures { λ l. ⌜ Part (words .entry) l (sizeSpan (now (words .entry)) size) ⌝ }
 {
-    let at = bounds_of_size(words, size);
-    let start = words::row_start(words, at.from);
-    let end = words::row_start(words, at.to);
+    let from = rows_under(words, size as u64);
+    let to = rows_under(words, size as u64 + 1);
+    let start = words::row_start(words, from);
+    let end = words::row_start(words, to);
     &words[start..end]
 }
 

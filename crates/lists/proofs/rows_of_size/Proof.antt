@@ -14,42 +14,47 @@ use Rattle.lists.proofs.rows_of_size.Tie as tie
 
 -- where the rows start and end
 pub record Bounds (c : tie.After-row-start2) : Type 0 where
-  pub start : c .before .row-start .result ≡ rowStart (c .before .before .before .before .args .words .now) (rowsUnder (c .before .before .before .before .args .words .now) (c .before .before .before .before .args .size))
-  pub end : c .row-start2 .result ≡ rowStart (c .before .before .before .before .args .words .now) (rowsUnder (c .before .before .before .before .args .words .now) (c .before .before .before .before .args .size + 1))
-  pub order : rowsUnder (c .before .before .before .before .args .words .now) (c .before .before .before .before .args .size) ≤ rowsUnder (c .before .before .before .before .args .words .now) (c .before .before .before .before .args .size + 1)
-  pub within : c .row-start2 .result ≤ length (c .before .before .before .before .args .words .now)
+  pub start : c .before .row-start .result ≡ rowStart (c .before .before .before .before .before .args .words .now) (rowsUnder (c .before .before .before .before .before .args .words .now) (c .before .before .before .before .before .args .size))
+  pub end : c .row-start2 .result ≡ rowStart (c .before .before .before .before .before .args .words .now) (rowsUnder (c .before .before .before .before .before .args .words .now) (c .before .before .before .before .before .args .size + 1))
+  pub order : rowsUnder (c .before .before .before .before .before .args .words .now) (c .before .before .before .before .before .args .size) ≤ rowsUnder (c .before .before .before .before .before .args .words .now) (c .before .before .before .before .before .args .size + 1)
+  pub within : c .row-start2 .result ≤ length (c .before .before .before .before .before .args .words .now)
 
 bounds : (c : tie.After-row-start2) → Bounds c
 bounds c =
-    let s = c .before .before .before .before in
+    let s = c .before .before .before .before .before in
     let w = s .args .words .now in
-    let b = c .before .before .bounds-of-size .ensures in
-    let n : c .row-start2 .result ≡ rowStart w (rowsUnder w (s .args .size + 1)) = c .row-start2 .ensures .0 ∙ ap (rowStart w) (b .1) in
-    let e = part-end w (s .pre) (λ i. omega (arith, c .before .before .before .shared-slice-known .given i)) (s .args .size) in
+    let n : c .row-start2 .result ≡ rowStart w (rowsUnder w (s .args .size + 1)) = c .row-start2 .ensures .0 ∙ ap (rowStart w) (c .before .before .rows-under2 .ensures) in
+    let e = part-end w (s .pre) (λ i. omega (arith, c .before .before .before .before .shared-slice-known .given i)) (s .args .size) in
     record {
-      start = c .before .row-start .ensures .0 ∙ ap (rowStart w) (b .0);
+      start = c .before .row-start .ensures .0 ∙ ap (rowStart w) (c .before .before .before .rows-under .ensures);
       end = n;
       order = under-next w (s .args .size);
       within = omega arith;
     }
 
-bounds-of-size-requires : tie.Need-bounds-of-size-requires
-bounds-of-size-requires c κs = search needs
+rows-under-requires : tie.Need-rows-under-requires
+rows-under-requires c κs = search needs
+
+add-rows-under : tie.Need-add-rows-under
+add-rows-under c = search needs
+
+rows-under-requires-2 : tie.Need-rows-under-requires-2
+rows-under-requires-2 c κs = search needs
 
 row-start-requires : tie.Need-row-start-requires
 row-start-requires c κs =
-    let s = c .before .before in
+    let s = c .before .before .before in
     let m = under-most (s .args .words .now) (s .args .size) in
     let n = rows-most (s .args .words .now) (s .pre) in
-    let e = c .bounds-of-size .ensures .0 in
+    let e = c .before .rows-under .ensures in
     (good-three _ (s .pre), omega arith)
 
 row-start-requires-2 : tie.Need-row-start-requires-2
 row-start-requires-2 c κs =
-    let s = c .before .before .before in
+    let s = c .before .before .before .before in
     let m = under-most (s .args .words .now) (s .args .size + 1) in
     let n = rows-most (s .args .words .now) (s .pre) in
-    let e = c .before .bounds-of-size .ensures .1 in
+    let e = c .before .rows-under2 .ensures in
     (good-three _ (s .pre), omega arith)
 
 mul-result : tie.Need-mul-result
@@ -67,7 +72,7 @@ part-result-end c = let b = bounds c in let s = b .start in let e = b .end in le
 returns : tie.Need-returns
 unfolding sizeSpan
 returns c =
-    let s = c .before .before .before .before .before in
+    let s = c .before .before .before .before .before .before in
     let w = s .args .words .now in
     let b = bounds (c .before) in
     let st = b .start in
@@ -80,7 +85,9 @@ pub rows-of-size-spec : {M : Type 1} → statement M
 rows-of-size-spec =
     tie.close
     (tie.spec
-    bounds-of-size-requires
+    rows-under-requires
+    add-rows-under
+    rows-under-requires-2
     row-start-requires
     row-start-requires-2
     mul-result
