@@ -136,6 +136,10 @@ fn good(words: &[u32]) -> bool {
         return false;
     }
     let mut tally = [0u32; NAMES];
+    let mut guesses = [0u8; 4096];
+    for (at, name) in index.names.iter().enumerate() {
+        guesses[(name >> 8) as usize % 4096] = at as u8;
+    }
     for row in index.rows {
         let list = &postings[row[2] as usize..(row[2] + row[3]) as usize];
         let mut least = 0;
@@ -144,7 +148,11 @@ fn good(words: &[u32]) -> bool {
                 return false;
             }
             least = id + 1;
-            let at = index.names.partition_point(|name| *name < id << 8);
+            let guess = guesses[*id as usize % 4096] as usize;
+            let at = match index.names.get(guess) {
+                Some(name) if name >> 8 == *id => guess,
+                _ => index.names.partition_point(|name| *name < id << 8),
+            };
             if index.names.get(at) != Some(&(id << 8 | row[0])) || row[0] > 255 {
                 return false;
             }
@@ -178,13 +186,18 @@ fn one_size(
     let mut keys = [0u32; FEATURES];
     let rows = &index.rows[index.rows.partition_point(|row| row[0] < size)..];
     let rows = &rows[..rows.partition_point(|row| row[0] == size)];
+    let Some(last) = rows.len().checked_sub(1) else { return Some(0) };
+    let mut filled = 0;
     for (at, feature) in features.iter().enumerate() {
-        let row = rows.partition_point(|row| row[1] < *feature);
-        if let Some(row) = rows.get(row).filter(|row| row[1] == *feature) {
-            starts[at] = row[2];
-            keys[at] = row[3] << 8;
-        }
-        keys[at] |= at as u32;
+        let row = rows[rows.partition_point(|row| row[1] < *feature).min(last)];
+        let found = u32::from(row[1] == *feature);
+        starts[at] = row[2] * found;
+        keys[at] = row[3] * found << 8 | at as u32;
+        filled += found as usize;
+    }
+    // where fewer lists than the least count have ids, the signature lists are empty
+    if filled < least {
+        return Some(0);
     }
     keys[..x].sort_unstable();
     let list = |key: u32| {
@@ -202,8 +215,13 @@ fn one_size(
         if touches > budget {
             return None;
         }
+        let mut next = 0;
         for id in list {
-            let at = index.names.partition_point(|name| *name < id << 8);
+            let at = match index.names.get(next) {
+                Some(name) if name >> 8 == *id => next,
+                _ => index.names.partition_point(|name| *name < id << 8),
+            };
+            next = at + 1;
             if counts[at] == 0 {
                 met[candidates] = at as u16;
                 candidates += 1;
@@ -217,11 +235,17 @@ fn one_size(
             return None;
         }
         let list = list(*key);
-        let mut left = 0;
+        let (mut left, mut next) = (0, 0);
         for at in 0..candidates {
             let name = met[at] as usize;
             let id = index.names[name] >> 8;
-            let count = counts[name] + u32::from(list.binary_search(&id).is_ok());
+            let stands = match list.get(next) {
+                Some(other) if *other == id => next,
+                _ => list.partition_point(|other| *other < id),
+            };
+            let found = list.get(stands) == Some(&id);
+            next = stands + usize::from(found);
+            let count = counts[name] + u32::from(found);
             if count as usize + x - place - 1 < least {
                 counts[name] = 0;
             } else {
