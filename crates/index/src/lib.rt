@@ -127,7 +127,7 @@ fn name_for(words: &[u32], size: u32, id: u32) -> usize
     names
 }
 
-// A guess for each id of a name, at the id's last twelve bits: the place of such a name.
+// Sets a guess at the last twelve bits of each name's id: the name's place, the last one where names share these bits.
 fn guess_names(words: &[u32], guesses: &mut [u8])
     requires { ⌜ Named (now words) × (guessRoom ≤ length (now guesses)) ⌝ }
 {
@@ -140,7 +140,7 @@ fn guess_names(words: &[u32], guesses: &mut [u8])
     }
 }
 
-// As name_for, whatever the guesses: where the guess is the name it is not sought.
+// As name_for, whatever the guesses are: a guess that is the name saves the search.
 fn name_near(words: &[u32], guesses: &[u8], size: u32, id: u32) -> usize
     requires { ⌜ Named (now words) × (guessRoom ≤ length (now guesses)) ⌝ }
     ensures { λ r. ⌜ r ≡ nameFor (now (words .entry)) size id ⌝ }
