@@ -1,6 +1,7 @@
--- Where a name stands, found by a halving search of the name words. Cited by the proofs of `name_place` and `name_for`.
+-- Where a name stands, found by a halving search of the name words, or by a guess. Cited by the proofs of `name_place`, `name_for`
+-- and `name_near`.
 -- Assumes nothing.
-use mathlib.Core.Path.{_≡_, sym, ap, subst, _∙_}
+use mathlib.Core.Path.{_≡_, refl, sym, ap, subst, _∙_}
 use mathlib.Core.Logic.{⊎-elim}
 use mathlib.Core.Bool.{Bool, true, cond, _&&_}
 use mathlib.Core.List.{List}
@@ -143,3 +144,9 @@ module _ (w : List ℕ) (good : Named w) where
 
     pub for-past : nameCount w ≤ at → nameCount w ≡ nameFor w y id
     for-past l = nowhere (λ i m p q. let a = before i (omega arith) in omega arith)
+
+  -- ---- what a guess tells
+
+  -- a name of the id and the size is the one for them, however it was come by
+  pub for-near : (y id i : ℕ) → i < nameCount w → nameId w i ≡ id → nameSize w i ≡ y → i ≡ nameFor w y id
+  for-near y id i l p q = for-met y id i (only y id (namePlace w id) refl i l p) l p q

@@ -23,7 +23,7 @@ use Rattle.laws.proofs.Found.{first-found, all-more, pairs-more}
 use Rattle.laws.proofs.Order.{eq-or-ne}
 use Rattle.laws.proofs.Tests.{test-fails}
 use Rattle.laws.proofs.Ascending.{rises, rises-apart, member-nowhere}
-use Rattle.words.specs.Words.{namesStart, nameCount, rowCount, postingsStart, nameId, nameSize, rowSize, rowPlace, rowLength, posting, listAt}
+use Rattle.words.specs.Words.{nameCount, rowCount, nameId, nameSize, rowSize, rowPlace, rowLength, posting, listStart, listAt}
 use Rattle.index.specs.Good.{mostNames, headGood, namesGood, rowsGood, isName, listGood, listsWith, listsGood, goodOf}
 use Rattle.index.specs.Check.{Checked, Tallied, nameFor}
 use Rattle.index.proofs.Facts.{head-facts, names-facts, rows-facts, list-within, length-list, list-getD}
@@ -70,6 +70,10 @@ module _ (w : List ℕ) (r : ℕ) where
   -- the k-th id of row r
   abbrev pub idAt : ℕ → ℕ
   idAt k = posting w (rowPlace w r + k)
+
+  pub id-read : (k first : ℕ) → first ≡ listStart w r → getD w (first + k) 0 ≡ idAt k
+  unfolding posting
+  id-read k first e = ap (λ (m : ℕ). getD w m 0) (omega arith)
 
   abbrev pub nextAt : ℕ → Bool
   nextAt k = ltb (posting w (rowPlace w r + k)) (posting w (rowPlace w r + (k + 1)))
@@ -215,13 +219,11 @@ module _ (w : List ℕ) (good : Checked w) (r : ℕ) (row : r < rowCount w) wher
       )
 
   -- the k-th posting of the row lies within the slice
-  pub posting-in : (k p : ℕ) → p ≡ rowPlace w r → k < rowLength w r → (namesStart ≤ length w) × (postingsStart w + (p + k) < length w)
-  posting-in k p e l =
-      let h = head-facts w (good .named .head) in
-      let three = h .three in
-      let within = h .within in
+  pub id-in : (k first : ℕ) → first ≡ listStart w r → k < rowLength w r → first + k < length w
+  id-in k first e l =
+      let within = head-facts w (good .named .head) .within in
       let list = list-within w (rows-facts w (good .rows)) r row in
-      (omega arith, omega arith)
+      omega arith
 
 -- ---- the whole
 

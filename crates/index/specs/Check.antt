@@ -30,6 +30,10 @@ namePlace w id = countBelow (nameCount w) (λ (i : ℕ). ltb (nameId w i) id)
 unfoldable pub nameFor : List ℕ → ℕ → ℕ → ℕ
 nameFor w size id = firstFrom (λ (i : ℕ). eqb (nameId w i) id && eqb (nameSize w i) size) (nameCount w) 0
 
+-- how many guesses there are, one for each id's last twelve bits
+abbrev pub guessRoom : ℕ
+guessRoom = 4096
+
 -- the tally has, at each name's place, how many of the first r lists hold the name
 unfoldable pub Tallied : List ℕ → ℕ → List ℕ → Type 0
 Tallied w r tally = (i : ℕ) → i < nameCount w → getD tally i 0 ≡ countBelow r (λ (s : ℕ). member (nameId w i) (listAt w s))

@@ -7,7 +7,7 @@ ghost use lib.Dec.{eqb};
 ghost use Rattle.laws.specs.Below.{allBelow};
 ghost use Rattle.words.specs.Words.{nameCount, rowCount, namesStart, nameSize};
 ghost use Rattle.index.specs.Good.{headGood, nameGood, namesGood, rowsGood, listGood, listsGood, goodOf};
-ghost use Rattle.index.specs.Check.{Named, Checked, Tallied, namePlace, nameFor};
+ghost use Rattle.index.specs.Check.{Named, Checked, Tallied, namePlace, nameFor, guessRoom};
 
 // The most names, the most postings, the largest id, the least and the largest size of a good index.
 pub const MOST_NAMES: usize = 256;
@@ -127,25 +127,54 @@ fn name_for(words: &[u32], size: u32, id: u32) -> usize
     names
 }
 
+// Sets a guess at the last twelve bits of each name's id: the name's place, the last one where names share these bits.
+fn guess_names(words: &[u32], guesses: &mut [u8])
+    requires { ⌜ Named (now words) × (guessRoom ≤ length (now guesses)) ⌝ }
+{
+    let names = words::name_count(words);
+    let mut i: usize = 0;
+    while i < names {
+        let id = words::name_id(words, i) as usize;
+        guesses[id % 4096] = i as u8;
+        i += 1;
+    }
+}
+
+// As name_for, whatever the guesses are: a guess that is the name saves the search.
+fn name_near(words: &[u32], guesses: &[u8], size: u32, id: u32) -> usize
+    requires { ⌜ Named (now words) × (guessRoom ≤ length (now guesses)) ⌝ }
+    ensures { λ r. ⌜ r ≡ nameFor (now (words .entry)) size id ⌝ }
+{
+    let guess = guesses[id as usize % 4096] as usize;
+    if guess < words::name_count(words) {
+        if words::name_id(words, guess) == id {
+            if words::name_size(words, guess) == size {
+                return guess;
+            }
+        }
+    }
+    name_for(words, size, id)
+}
+
 // Whether row r's list is good; where it is, the tally has one more at the place of each of its names.
-fn list_good(words: &[u32], r: usize, tally: &mut [u32]) -> bool
-    requires { ⌜ Checked (now words) × (r < rowCount (now words)) × (nameCount (now words) ≤ length (now tally)) × Tallied (now words) r (now tally) ⌝ }
+fn list_good(words: &[u32], guesses: &[u8], r: usize, tally: &mut [u32]) -> bool
+    requires { ⌜ Checked (now words) × (guessRoom ≤ length (now guesses)) × (r < rowCount (now words)) × (nameCount (now words) ≤ length (now tally)) × Tallied (now words) r (now tally) ⌝ }
     ensures { λ v. ⌜ v ≡ listGood (now (words .entry)) r ⌝ }
     ensures { λ v. ⌜ (v ≡ true → Tallied (now (words .entry)) (r + 1) (now (tally .exit))) ⌝ }
 {
     let names = words::name_count(words);
-    let start = words::row_place(words, r);
+    let first = words::row_start(words, words::row_count(words)) + words::row_place(words, r);
     let count = words::row_length(words, r);
     let size = words::row_size(words, r);
     let mut k: usize = 0;
     while k < count {
-        let id = words::posting(words, start + k);
+        let id = words[first + k];
         if 0 < k {
-            if id <= words::posting(words, start + (k - 1)) {
+            if id <= words[first + (k - 1)] {
                 return false;
             }
         }
-        let at = name_for(words, size, id);
+        let at = name_near(words, guesses, size, id);
         if names <= at {
             return false;
         }
@@ -156,15 +185,15 @@ fn list_good(words: &[u32], r: usize, tally: &mut [u32]) -> bool
 }
 
 // Whether every row's list is good; where they are, the tally has how many lists hold each name.
-fn rows_tallied(words: &[u32], tally: &mut [u32]) -> bool
-    requires { ⌜ Checked (now words) × (nameCount (now words) ≤ length (now tally)) × Tallied (now words) 0 (now tally) ⌝ }
+fn rows_tallied(words: &[u32], guesses: &[u8], tally: &mut [u32]) -> bool
+    requires { ⌜ Checked (now words) × (guessRoom ≤ length (now guesses)) × (nameCount (now words) ≤ length (now tally)) × Tallied (now words) 0 (now tally) ⌝ }
     ensures { λ v. ⌜ v ≡ allBelow (rowCount (now (words .entry))) (listGood (now (words .entry))) ⌝ }
     ensures { λ v. ⌜ (v ≡ true → Tallied (now (words .entry)) (rowCount (now (words .entry))) (now (tally .exit))) ⌝ }
 {
     let rows = words::row_count(words);
     let mut row: usize = 0;
     while row < rows {
-        if !list_good(words, row, tally) {
+        if !list_good(words, guesses, row, tally) {
             return false;
         }
         row += 1;
@@ -192,8 +221,10 @@ fn lists_good(words: &[u32]) -> bool
     requires { ⌜ Checked (now words) ⌝ }
     ensures { λ r. ⌜ r ≡ listsGood (now (words .entry)) ⌝ }
 {
+    let mut guesses = [0u8; 4096];
+    guess_names(words, &mut guesses);
     let mut tally = [0u32; 256];
-    if !rows_tallied(words, &mut tally) {
+    if !rows_tallied(words, &guesses, &mut tally) {
         return false;
     }
     tally_good(words, &tally)
