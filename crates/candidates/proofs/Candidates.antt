@@ -93,7 +93,7 @@ count-take t n l =
     let f = ap (countOf t) (take-append-drop n l) in
     omega arith
 
-pub held-take : (ls : List (List ℕ)) (n id : ℕ) → heldBy (take n ls) id ≤ heldBy ls id
+held-take : (ls : List (List ℕ)) (n id : ℕ) → heldBy (take n ls) id ≤ heldBy ls id
 unfolding heldBy
 held-take ls n id = count-take (λ (l : List ℕ). member id l) n ls
 

@@ -1,4 +1,4 @@
--- Laws of the test of each candidate against one later list: what the tables hold after k candidates. Cited by the proof of `test`.
+-- Laws of the test of each candidate against one later list: what the tables hold after k candidates. Cited by the proof of `sift`.
 -- Assumes nothing.
 use mathlib.Core.Path.{_≡_, refl, sym, ap, ap₂, _∙_}
 use mathlib.Core.Logic.{_⊎_, ⊎-elim}

@@ -20,6 +20,10 @@ use Rattle.search.specs.Method.{namesOf, listsFor, touchesAt, sharedWith
 
 -- ---- the names
 
+-- the name words, as a part of the words
+unfoldable pub nameWords : List ℕ → List ℕ
+nameWords w = take (nameCount w) (drop namesStart w)
+
 -- 1 where a name has the size, 0 where none has
 unfoldable pub presentAt : List ℕ → ℕ → ℕ
 presentAt w y = cond (leb 1 (namesOf w y)) 1 0
@@ -38,9 +42,7 @@ smallKey w y features j = length (listIn w y (getD features j 0)) * 256 + j
 unfoldable pub filledOf : List ℕ → ℕ → List ℕ → ℕ → ℕ
 filledOf w y features n = countBelow n (λ (j : ℕ). ltb 255 (smallKey w y features j))
 
--- the name words, as a part of the words
-unfoldable pub nameWords : List ℕ → List ℕ
-nameWords w = take (nameCount w) (drop namesStart w)
+-- ---- one size
 
 -- what one size comes to: past exactly when its touches exceed the budget; otherwise the answers hold the counts of those left at their places
 pub record Sized (w : List ℕ) (y : ℕ) (features : List ℕ) (t budget : ℕ) (before after : List ℕ) (past : Bool) (touches : ℕ) : Type 0 where
