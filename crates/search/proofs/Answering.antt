@@ -21,11 +21,13 @@ use Rattle.likeness.specs.Least.{leastCount}
 use Rattle.words.specs.Words.{nameCount, nameId, nameSize}
 use Rattle.index.specs.Good.{Good, mostNames}
 use Rattle.index.proofs.Laws.{good-names-most}
-use Rattle.search.specs.Method.{namesOf, listsFor, heldBy, signatures, remains, laterCount, touchesAt, sharedWith, sizesEnd, touchesOfSize, touchesOf, listed}
-use Rattle.search.specs.Tables.{idAt, kept, remainsAt, remainTable, nameWords, Asked, answeredAt, answersTable}
-use Rattle.search.proofs.Candidates.{held-all}
+use Rattle.candidates.specs.Method.{heldBy, signatures, remains, laterCount}
+use Rattle.candidates.specs.Tables.{idAt, kept, remainsAt, remainTable}
+use Rattle.candidates.proofs.Candidates.{held-all}
+use Rattle.candidates.proofs.Counts.{remain-those, remain-value, at-remains, at-absent}
+use Rattle.search.specs.Method.{namesOf, listsFor, touchesAt, sharedWith, sizesEnd, touchesOfSize, touchesOf, listed}
+use Rattle.search.specs.Tables.{nameWords, Asked, answeredAt, answersTable}
 use Rattle.search.proofs.Laws.{length-lists}
-use Rattle.search.proofs.Counts.{remain-those, remain-value, at-remains, at-absent}
 use Rattle.search.proofs.Size.{length-names, id-at, remains-size}
 use Rattle.search.proofs.Work.{touches-absent}
 

@@ -18,7 +18,8 @@ use Rattle.likeness.specs.Terms.{lowestTerms}
 use Rattle.laws.specs.Lists.{member}
 use Rattle.words.specs.Words.{nameId, nameSize}
 use Rattle.index.specs.Good.{goodOf, Good}
-use Rattle.search.specs.Method.{listsFor, heldBy, sharedWith, touchesOf, answersOf}
+use Rattle.candidates.specs.Method.{heldBy}
+use Rattle.search.specs.Method.{listsFor, sharedWith, touchesOf, answersOf}
 use Rattle.search.specs.Answers.{numberIn, rowsIn, thresholdP, thresholdQ, questionOf, refusalOf, searchGoodOf, searchOf, givenBy}
 use Rattle.search.specs.declared.Answer.{Answer}
 use Rattle.search.specs.declared.Answer.the-variants.{Found, Refused}

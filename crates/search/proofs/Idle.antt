@@ -11,11 +11,11 @@ use native.Mathlib.Omega.{arith}
 use lib.ListN.{length, getD, take}
 use lib.Dec.{ltb, leb, eqb}
 use borrow.Author.Tests.{lt-ltb, le-ltb, ltb-true}
-use Rattle.laws.specs.Lists.{member, Ascending, tabulate, countOf, sumOf}
+use Rattle.laws.specs.Lists.{Ascending, tabulate, countOf, sumOf}
 use Rattle.laws.specs.Below.{sumBelow, countBelow}
 use Rattle.laws.specs.Sort.{sortOf}
 use Rattle.laws.proofs.Lists.{length-tabulate, getD-tabulate, tabulate-ext}
-use Rattle.laws.proofs.Below.{sum-below-ext, sum-below-most, and-false-left, and-false-right}
+use Rattle.laws.proofs.Below.{sum-below-ext, sum-below-most, and-false-right}
 use Rattle.laws.proofs.Ascending.{ascending-at}
 use Rattle.laws.proofs.Halving.{Falling, falling-count, count-index}
 use Rattle.laws.proofs.Order.{le-or-lt}
@@ -24,8 +24,11 @@ use Rattle.laws.proofs.Tables.{tabulate-self}
 use Rattle.words.specs.Words.{nameCount, nameId, nameSize}
 use Rattle.index.specs.Good.{mostNames}
 use Rattle.lists.specs.Lists.{listIn}
-use Rattle.search.specs.Method.{listsFor, heldBy, signatures, signaturePostings, remains, remaining, laterCount, touchesAt}
-use Rattle.search.specs.Tables.{idAt, nameWords, smallKey, filledOf, remainsAt, remainTable, kept, Asked}
+use Rattle.candidates.specs.Method.{heldBy, signatures, signaturePostings, remains, laterCount}
+use Rattle.candidates.specs.Tables.{idAt, remainsAt, remainTable, kept}
+use Rattle.candidates.proofs.Candidates.{no-holder, unmet}
+use Rattle.search.specs.Method.{listsFor, remaining, touchesAt}
+use Rattle.search.specs.Tables.{nameWords, smallKey, filledOf, Asked}
 use Rattle.search.proofs.Laws.{length-lists}
 use Rattle.search.proofs.Order.{smallKeys, small-ascending, length-small, kth-key}
 use Rattle.search.proofs.Size.{asked-query, asked-sorted}
@@ -67,7 +70,7 @@ none-of-length : (l : List ℕ) → length l ≡ 0 → l ≡ []
 none-of-length [] e = refl
 none-of-length (x ∷ l) e = absurd (omega arith)
 
--- lists whose first n are empty have no posting there, and hold no id there
+-- lists whose first n are empty have no posting there
 no-postings : (n : ℕ) (ls : List (List ℕ)) → ((k : ℕ) → k < n → getD ls k [] ≡ []) → sumOf (map length (take n ls)) ≡ 0
 unfolding sumOf
 no-postings zero ls h = refl
@@ -76,24 +79,6 @@ no-postings (suc n) (l ∷ ls) h =
     let e : length l ≡ 0 = ap length (h 0 (omega arith)) in
     let r = no-postings n ls (λ k p. h (suc k) (omega arith)) in
     omega arith
-
-no-holder : (n : ℕ) (ls : List (List ℕ)) (id : ℕ) → ((k : ℕ) → k < n → getD ls k [] ≡ []) → heldBy (take n ls) id ≡ 0
-unfolding heldBy countOf member
-no-holder zero ls id h = refl
-no-holder (suc n) [] id h = refl
-no-holder (suc n) (l ∷ ls) id h =
-    let e : _≡_ {A = ℕ} (cond (member id l) 1 0) 0 = ap (λ (r : List ℕ). cond (member id r) 1 0) (h 0 (omega arith)) in
-    let r = no-holder n ls id (λ k p. h (suc k) (omega arith)) in
-    omega arith
-
--- who is not met does not remain
-unmet : (ls : List (List ℕ)) (t id : ℕ) → heldBy (take (signatures (length ls) t) ls) id ≡ 0 → (d : ℕ) → remains ls t d id ≡ false
-unfolding remains
-unmet ls t id e zero = ap (leb 1) e
-unmet ls t id e (suc d) =
-    and-false-left (remains ls t d id)
-    (leb t (heldBy (take (signatures (length ls) t + suc d) ls) id + (length ls - (signatures (length ls) t + suc d))))
-    (unmet ls t id e d)
 
 -- ---- one size
 

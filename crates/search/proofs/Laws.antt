@@ -27,8 +27,9 @@ use Rattle.index.specs.Good.{Good}
 use Rattle.index.proofs.Laws.{good-name-within}
 use Rattle.lists.specs.Lists.{listIn}
 use Rattle.lists.proofs.Laws.{held-le-size}
-use Rattle.search.specs.Method.{orderedFor, listsFor, heldBy, signatures, remains, laterCount, sharedWith, listed, answersBelow, answersOf}
-use Rattle.search.proofs.Candidates.{remains-end}
+use Rattle.candidates.specs.Method.{heldBy, signatures, remains, laterCount}
+use Rattle.candidates.proofs.Candidates.{remains-end}
+use Rattle.search.specs.Method.{orderedFor, listsFor, sharedWith, listed, answersBelow, answersOf}
 
 -- ---- the order of the query's features changes no count
 

@@ -1,11 +1,7 @@
-pub mod Candidates
-pub mod Tables
-pub mod Testing
 pub mod Laws
 pub mod Work
-pub mod Places
+pub mod Present
 pub mod Order
-pub mod Counts
 pub mod Size
 pub mod Idle
 pub mod Answering

@@ -7,15 +7,15 @@ use mathlib.Core.Bool.{Bool, true, false, cond, _&&_}
 use mathlib.Core.List.{List, [], _∷_, _++_}
 use Prim.Native.Nat.{ℕ, zero, suc, _+_, _-_, _*_, _/_, _%_, _≤_, _<_}
 use native.Mathlib.Omega.{arith}
-use lib.ListN.{length, getD, take, drop, length-drop, take-append-drop}
+use lib.ListN.{length, getD, take, drop, length-drop}
 use lib.Seq.{ext-getD, length-take-le, getD-take, getD-drop}
-use lib.Dec.{eqb, ltb, leb}
-use borrow.Author.Tests.{lt-ltb, le-ltb, ltb-true, leb-true, eq-eqb, eqb-true}
+use lib.Dec.{eqb, ltb}
+use borrow.Author.Tests.{lt-ltb, le-ltb, ltb-true, eq-eqb, eqb-true}
 use Rattle.laws.specs.Lists.{member, Ascending, tabulate, countOf}
 use Rattle.laws.specs.Below.{sumBelow, countBelow}
 use Rattle.laws.specs.Each.{Each}
 use Rattle.laws.specs.Sort.{sortOf}
-use Rattle.laws.proofs.Lists.{length-tabulate, getD-tabulate, count-append}
+use Rattle.laws.proofs.Lists.{length-tabulate, getD-tabulate}
 use Rattle.laws.proofs.Members.{member-head, member-tail}
 use Rattle.laws.proofs.Below.{sum-below-ext, sum-below-step, count-below-most}
 use Rattle.laws.proofs.Tests.{same-test, and-parts}
@@ -29,10 +29,13 @@ use Rattle.lists.specs.Part.{Span, cut}
 use Rattle.lists.specs.Lists.{listIn, spanIn}
 use Rattle.lists.proofs.Laws.{good-named, good-ascending, span-words}
 use Rattle.lists.proofs.Spans.{span-within, span-count}
-use Rattle.search.specs.Method.{listsFor, heldBy, signatures, signaturePostings, remains, remaining, laterCount, touchesAt}
-use Rattle.search.specs.Tables.{idAt, Names, Named, startOf, smallKey, cutAt, cutLists, Readable, remainsAt, laterTouches, nameWords, Asked, postingsOf}
+use Rattle.candidates.specs.Method.{signatures, signaturePostings, remains, laterCount}
+use Rattle.candidates.specs.Tables.{idAt, Names, Named, cutAt, cutLists, Readable, remainsAt, laterTouches, postingsOf}
+use Rattle.candidates.proofs.Candidates.{remains-met}
+use Rattle.candidates.proofs.Counts.{length-cut, getD-cut}
+use Rattle.search.specs.Method.{listsFor, remaining, touchesAt}
+use Rattle.search.specs.Tables.{startOf, smallKey, nameWords, Asked}
 use Rattle.search.proofs.Laws.{Query, length-lists, held-features}
-use Rattle.search.proofs.Counts.{length-cut, getD-cut}
 use Rattle.search.proofs.Work.{list-length}
 use Rattle.search.proofs.Order.{smallKeys, length-small, kth-key}
 
@@ -162,26 +165,6 @@ count-some t (x ∷ l) h = by-test (t x) refl h (count-some t l)
         → (z : ℕ) × (member z (x ∷ l) ≡ true) × (t z ≡ true)
     by-test true e k r = (x, member-head x l, e)
     by-test false e k r = let p = r (omega arith) in (p .0, member-tail x (p .0) l (p .1), p .2)
-
-count-take : {A : Type 0} (t : A → Bool) (n : ℕ) (l : List A) → countOf t (take n l) ≤ countOf t l
-count-take t n l =
-    let e = count-append t (take n l) (drop n l) in
-    let f = ap (countOf t) (take-append-drop n l) in
-    omega arith
-
-held-take : (ls : List (List ℕ)) (n id : ℕ) → heldBy (take n ls) id ≤ heldBy ls id
-unfolding heldBy
-held-take ls n id = count-take (λ (l : List ℕ). member id l) n ls
-
--- who remains was met
-remains-met : (ls : List (List ℕ)) (t d id : ℕ) → remains ls t d id ≡ true → 1 ≤ heldBy ls id
-unfolding remains
-remains-met ls t zero id e =
-    let a = leb-true 1 (heldBy (take (signatures (length ls) t) ls) id) e in
-    let b = held-take ls (signatures (length ls) t) id in
-    omega arith
-remains-met ls t (suc d) id e =
-    remains-met ls t d id (and-parts (remains ls t d id) (leb t (heldBy (take (signatures (length ls) t + suc d) ls) id + (length ls - (signatures (length ls) t + suc d)))) e .0)
 
 -- the names below an end that is not short of them
 count-cut : (n d : ℕ) (u : ℕ → Bool) → countBelow (n + d) (λ (i : ℕ). ltb i n && u i) ≡ countBelow n u

@@ -31,8 +31,9 @@ use Rattle.words.specs.Words.{nameCount, nameWord, nameId, nameSize, namesStart
 use Rattle.index.specs.Good.{Good, mostNames}
 use Rattle.index.proofs.Laws.{good-name-within, good-names-most}
 use Rattle.lists.specs.Lists.{listIn}
+use Rattle.candidates.specs.Tables.{idAt}
 use Rattle.search.specs.Method.{orderedFor, listsFor, sharedWith, sizesEnd, touchesOfSize, touchesOf, listed, answersBelow, answersOf}
-use Rattle.search.specs.Tables.{idAt, nameWords, Asked, answeredAt, answersTable, placesIn}
+use Rattle.search.specs.Tables.{nameWords, Asked, answeredAt, answersTable, placesIn}
 use Rattle.search.proofs.Laws.{Query, listed-similar}
 use Rattle.search.proofs.Size.{length-names, id-at, asked-query}
 

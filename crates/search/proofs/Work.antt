@@ -10,7 +10,7 @@ use native.Mathlib.Nat.{mul-le-mul, mul-le-mul-left, mul-le-mul-right, mul-comm,
 use native.Mathlib.Omega.{arith}
 use lib.ListN.{length, getD, take}
 use lib.Seq.{length-take-le}
-use lib.Dec.{leb, ltb, eqb}
+use lib.Dec.{ltb, eqb}
 use borrow.Author.Tests.{le-leb, lt-leb, leb-true, leb-false, eq-eqb, ne-eqb, eqb-true}
 use Rattle.laws.specs.Lists.{member, Distinct, countOf, sumOf}
 use Rattle.laws.specs.Each.{Each}
@@ -33,7 +33,9 @@ use Rattle.index.proofs.Laws.{good-names-most, good-name-within}
 use Rattle.lists.specs.Lists.{listIn}
 use Rattle.lists.proofs.Laws.{good-ascending, good-named}
 use Rattle.names.specs.Features.{mostFeatures}
-use Rattle.search.specs.Method.{namesOf, orderedFor, listsFor, heldBy, signatures, signaturePostings, remains, remaining, laterCount, touchesAt, sizesEnd, touchesOfSize, touchesOf}
+use Rattle.candidates.specs.Method.{signatures, signaturePostings, remains, laterCount}
+use Rattle.candidates.proofs.Candidates.{remains-less}
+use Rattle.search.specs.Method.{namesOf, orderedFor, listsFor, remaining, touchesAt, sizesEnd, touchesOfSize, touchesOf}
 use Rattle.search.proofs.Laws.{count-map, count-ordered, length-lists, Query}
 
 -- ---- the names of one size
@@ -72,10 +74,6 @@ list-length w g y f =
     omega arith
 
 -- ---- the candidates only become fewer
-
-remains-less : (ls : List (List ℕ)) (t d id : ℕ) → remains ls t (suc d) id ≡ true → remains ls t d id ≡ true
-unfolding remains
-remains-less ls t d id e = and-left (remains ls t d id) (leb t (heldBy (take (signatures (length ls) t + suc d) ls) id + (length ls - (signatures (length ls) t + suc d)))) e
 
 fewer : (w : List ℕ) (y : ℕ) (ls : List (List ℕ)) (t d : ℕ) → remaining w y ls t (suc d) ≤ remaining w y ls t d
 unfolding remaining

@@ -1,14 +1,11 @@
 -- The counted search, step by step, on plain lists. What it lists is joined to the measures in proofs/Laws.antt.
--- Where this departs from the paper: a candidate that reaches the least count stays, because a row needs its full shared count; candidates
--- are accepted after the last feature and not only in the paper's second loop, which is empty where the least count is 1; the signatures end
--- at x − t, as in the paper's loop and not its prose; the pruning bound adds what is left, as in its loop.
+-- What one size does with its lists in order, and where it departs from the paper: specs/Method.antt of `candidates`.
 -- Assumes nothing.
 use mathlib.Core.Bool.{Bool, cond, _&&_}
 use mathlib.Core.List.{List, [], _∷_, _++_, map}
-use Prim.Native.Nat.{ℕ, zero, suc, _+_, _-_, _%_}
-use lib.ListN.{length, take}
-use lib.Dec.{leb, eqb}
-use Rattle.laws.specs.Lists.{member, countOf, sumOf}
+use Prim.Native.Nat.{ℕ, zero, suc, _+_, _%_}
+use lib.ListN.{length}
+use lib.Dec.{eqb}
 use Rattle.laws.specs.Below.{sumBelow, countBelow}
 use Rattle.laws.specs.Sort.{sortOf}
 use Rattle.names.specs.Features.{mostFeatures}
@@ -16,6 +13,7 @@ use Rattle.likeness.specs.Sizes.{isSearched}
 use Rattle.likeness.specs.Least.{leastCount}
 use Rattle.words.specs.Words.{nameCount, nameId, nameSize, featureSpan, keyOf}
 use Rattle.lists.specs.Lists.{listIn}
+use Rattle.candidates.specs.Method.{heldBy, signaturePostings, remains, laterCount}
 
 -- ---- one size: the lists of the query's features, in their order
 
@@ -28,26 +26,6 @@ orderedFor w y query =
 unfoldable pub listsFor : List ℕ → ℕ → List ℕ → List (List ℕ)
 listsFor w y query = map (listIn w y) (orderedFor w y query)
 
--- how many of the lists hold the id
-unfoldable pub heldBy : List (List ℕ) → ℕ → ℕ
-heldBy ls id = countOf (λ (l : List ℕ). member id l) ls
-
--- how many of x lists are signatures: x − t + 1
-abbrev pub signatures : ℕ → ℕ → ℕ
-signatures x t = (x - t) + 1
-
--- the postings of the signature lists
-unfoldable pub signaturePostings : List (List ℕ) → ℕ → ℕ
-signaturePostings ls t = sumOf (map length (take (signatures (length ls) t) ls))
-
--- whether the id is still a candidate after d later features. At first: met in a signature list. The later feature at place k, counted
--- from 0 in the whole order, tests each remaining candidate, and drops it after the test where its count plus x − k − 1 is below t
-unfoldable pub remains : List (List ℕ) → ℕ → ℕ → ℕ → Bool
-remains ls t zero id = leb 1 (heldBy (take (signatures (length ls) t) ls) id)
-remains ls t (suc d) id =
-    remains ls t d id
-    && leb t (heldBy (take (signatures (length ls) t + suc d) ls) id + (length ls - (signatures (length ls) t + suc d)))
-
 -- how many names have the size
 abbrev pub namesOf : List ℕ → ℕ → ℕ
 namesOf w y = countBelow (nameCount w) (λ (i : ℕ). eqb (nameSize w i) y)
@@ -55,10 +33,6 @@ namesOf w y = countBelow (nameCount w) (λ (i : ℕ). eqb (nameSize w i) y)
 -- how many names of the size remain after d later features
 unfoldable pub remaining : List ℕ → ℕ → List (List ℕ) → ℕ → ℕ → ℕ
 remaining w y ls t d = countBelow (nameCount w) (λ (i : ℕ). eqb (nameSize w i) y && remains ls t d (nameId w i))
-
--- how many features come after the signatures
-abbrev pub laterCount : List (List ℕ) → ℕ → ℕ
-laterCount ls t = length ls - signatures (length ls) t
 
 -- the touches of one size: one for each posting of a signature list, and for each later feature one for each remaining candidate
 unfoldable pub touchesAt : List ℕ → ℕ → List (List ℕ) → ℕ → ℕ

@@ -1,69 +1,32 @@
--- The tables that the code keeps by a name's place among the names: counts, and the candidates met. Cited by the contracts of the code's parts.
+-- What the code's parts are held to: the lists of a size as the code finds them, one size, all sizes, and the answers by a name's place.
+-- The tables of the candidates: specs/Tables.antt of `candidates`.
 -- Assumes nothing.
 use mathlib.Core.Path.{_≡_}
-use mathlib.Core.Bool.{Bool, true, false, cond, _&&_}
-use mathlib.Core.List.{List, [], _∷_, _++_, map}
-use Prim.Native.Nat.{ℕ, zero, suc, _+_, _*_, _/_, _%_, _≤_, _<_}
+use mathlib.Core.Bool.{Bool, false, cond, _&&_}
+use mathlib.Core.List.{List, [], _∷_, _++_}
+use Prim.Native.Nat.{ℕ, zero, suc, _+_, _*_, _≤_, _<_}
 use lib.ListN.{length, getD, take, drop}
-use lib.Dec.{leb, ltb, eqb}
-use Rattle.laws.specs.Lists.{member, Distinct, Ascending, tabulate, sumOf}
-use Rattle.laws.specs.Below.{sumBelow, countBelow}
+use lib.Dec.{leb, ltb}
+use Rattle.laws.specs.Lists.{Ascending, tabulate}
+use Rattle.laws.specs.Below.{countBelow}
 use Rattle.laws.specs.Each.{Each}
 use Rattle.names.specs.Features.{mostFeatures}
 use Rattle.words.specs.Words.{nameCount, nameSize, namesStart, featureSpan}
 use Rattle.index.specs.Good.{mostNames}
 use Rattle.lists.specs.Lists.{spanIn, listIn}
-use Rattle.search.specs.Method.{namesOf, listsFor, heldBy, signatures, remains, laterCount, touchesAt, sharedWith, sizesEnd, touchesOfSize, touchesOf, listed}
+use Rattle.candidates.specs.Method.{laterCount}
+use Rattle.candidates.specs.Tables.{kept, remainTable}
+use Rattle.search.specs.Method.{namesOf, listsFor, touchesAt, sharedWith, sizesEnd, touchesOfSize, touchesOf, listed}
 
--- ---- the names, as their words
+-- ---- the names
 
--- the id of the name at place i; past the last name the id is 0
-abbrev pub idAt : List ℕ → ℕ → ℕ
-idAt ns i = getD ns i 0 / 256
-
--- whether the list holds the name at place i; never past the last name
-unfoldable pub holdsAt : List ℕ → List ℕ → ℕ → Bool
-holdsAt ns l i = ltb i (length ns) && member (idAt ns i) l
-
--- the names have ascending ids and are not too many
-pub record Names (ns : List ℕ) : Type 0 where
-  pub few : length ns ≤ mostNames
-  pub rising : (i j : ℕ) → i < j → j < length ns → idAt ns i < idAt ns j
-
--- each id of the list is one of the names
-abbrev pub Named : List ℕ → List ℕ → Type 0
-Named ns l = (id : ℕ) → member id l ≡ true → (i : ℕ) × (i < length ns) × (idAt ns i ≡ id)
+-- the name words, as a part of the words
+unfoldable pub nameWords : List ℕ → List ℕ
+nameWords w = take (nameCount w) (drop namesStart w)
 
 -- 1 where a name has the size, 0 where none has
 unfoldable pub presentAt : List ℕ → ℕ → ℕ
 presentAt w y = cond (leb 1 (namesOf w y)) 1 0
-
--- ---- the candidates met
-
--- the first m of `met` are the places whose count is at least 1, each once
-pub record MetBy (counts met : List ℕ) (m : ℕ) : Type 0 where
-  pub within : m ≤ length met
-  pub distinct : Distinct (take m met)
-  pub those : (i : ℕ) → member i (take m met) ≡ leb 1 (getD counts i 0)
-
--- ---- the counts
-
--- one more at each name that the list holds
-unfoldable pub tallied : List ℕ → List ℕ → List ℕ → List ℕ
-tallied ns l counts = tabulate (λ (i : ℕ). getD counts i 0 + cond (holdsAt ns l i) 1 0) mostNames
-
--- the count after a test: one more where the list holds the name; 0, dropped, where that and `left` more are below `least`, or was 0
-unfoldable pub testedAt : List ℕ → List ℕ → ℕ → ℕ → List ℕ → ℕ → ℕ
-testedAt ns l left least counts i =
-    cond (eqb (getD counts i 0) 0) 0
-    (cond (ltb (getD counts i 0 + cond (holdsAt ns l i) 1 0 + left) least) 0 (getD counts i 0 + cond (holdsAt ns l i) 1 0))
-
-unfoldable pub tested : List ℕ → List ℕ → ℕ → ℕ → List ℕ → List ℕ
-tested ns l left least counts = tabulate (testedAt ns l left least counts) mostNames
-
--- the answers with each count that is at least 1 put at its place
-unfoldable pub kept : List ℕ → List ℕ → List ℕ
-kept counts answers = tabulate (λ (i : ℕ). cond (leb 1 (getD counts i 0)) (getD counts i 0) (getD answers i 0)) mostNames
 
 -- ---- the lists of a size
 
@@ -79,70 +42,7 @@ smallKey w y features j = length (listIn w y (getD features j 0)) * 256 + j
 unfoldable pub filledOf : List ℕ → ℕ → List ℕ → ℕ → ℕ
 filledOf w y features n = countBelow n (λ (j : ℕ). ltb 255 (smallKey w y features j))
 
--- the k-th list in the keys' order, as the code cuts it out of the words: the key's length, from where its feature's list starts
-unfoldable pub cutAt : List ℕ → List ℕ → List ℕ → ℕ → List ℕ
-cutAt w keys starts k = take (getD keys k 0 / 256) (drop (getD starts (getD keys k 0 % 256) 0) w)
-
--- all of them
-unfoldable pub cutLists : List ℕ → List ℕ → List ℕ → List (List ℕ)
-cutLists w keys starts = tabulate (cutAt w keys starts) (length keys)
-
--- each can be cut, ascends, and holds only ids of names
-pub record Readable (w ns keys starts : List ℕ) : Type 0 where
-  pub place : (k : ℕ) → k < length keys → getD keys k 0 % 256 < length starts
-  pub short : (k : ℕ) → k < length keys → getD keys k 0 / 256 ≤ mostNames
-  pub within : (k : ℕ) → k < length keys → getD starts (getD keys k 0 % 256) 0 + getD keys k 0 / 256 ≤ length w
-  pub ascending : (k : ℕ) → k < length keys → Ascending (cutAt w keys starts k)
-  pub named : (k : ℕ) → k < length keys → Named ns (cutAt w keys starts k)
-
--- ---- the counts of all names
-
--- how many of the lists hold each name; 0 past the last name
-unfoldable pub heldTable : List ℕ → List (List ℕ) → List ℕ
-heldTable ns ls = tabulate (λ (i : ℕ). cond (ltb i (length ns)) (heldBy ls (idAt ns i)) 0) mostNames
-
--- whether the name at place i remains after d later features; never past the last name
-unfoldable pub remainsAt : List ℕ → List (List ℕ) → ℕ → ℕ → ℕ → Bool
-remainsAt ns ls t d i = ltb i (length ns) && remains ls t d (idAt ns i)
-
--- the counts of those that remain after d later features; 0 of all others
-unfoldable pub remainTable : List ℕ → List (List ℕ) → ℕ → ℕ → List ℕ
-remainTable ns ls t d =
-    tabulate (λ (i : ℕ). cond (remainsAt ns ls t d i) (heldBy (take (signatures (length ls) t + d) ls) (idAt ns i)) 0) mostNames
-
--- the touches of d later features: one for each that remains before each
-unfoldable pub laterTouches : List ℕ → List (List ℕ) → ℕ → ℕ → ℕ
-laterTouches ns ls t d = sumBelow d (λ (e : ℕ). countBelow mostNames (remainsAt ns ls t e))
-
--- ---- what the phases come to
-
--- the postings of the first n lists
-abbrev pub postingsOf : List (List ℕ) → ℕ → ℕ
-postingsOf ls n = sumOf (map length (take n ls))
-
--- after the signature lists: past exactly when their postings exceed the budget; otherwise they are the touches, and the tables hold the counts
-pub record Gathered (ns : List ℕ) (ls : List (List ℕ)) (n budget : ℕ) (counts met : List ℕ) (past : Bool) (touches m : ℕ) : Type 0 where
-  pub over : past ≡ ltb budget (postingsOf ls n)
-  pub cost : past ≡ false → touches ≡ postingsOf ls n
-  pub table : past ≡ false → counts ≡ heldTable ns (take n ls)
-  pub candidates : past ≡ false → MetBy counts met m
-
--- after the later lists: past exactly when their touches exceed the budget; otherwise the tables hold the counts of those left
-pub record Narrowed (ns : List ℕ) (ls : List (List ℕ)) (t budget : ℕ) (counts met : List ℕ) (past : Bool) (touches m : ℕ) : Type 0 where
-  pub over : past ≡ ltb budget (laterTouches ns ls t (laterCount ls t))
-  pub cost : past ≡ false → touches ≡ laterTouches ns ls t (laterCount ls t)
-  pub table : past ≡ false → counts ≡ remainTable ns ls t (laterCount ls t)
-  pub candidates : past ≡ false → MetBy counts met m
-
--- after both: past exactly when the touches of both exceed the budget; otherwise the answers hold the counts of those left at their places
-pub record Walked (ns : List ℕ) (ls : List (List ℕ)) (t budget : ℕ) (before after : List ℕ) (past : Bool) (touches : ℕ) : Type 0 where
-  pub over : past ≡ ltb budget (postingsOf ls (signatures (length ls) t) + laterTouches ns ls t (laterCount ls t))
-  pub cost : past ≡ false → touches ≡ postingsOf ls (signatures (length ls) t) + laterTouches ns ls t (laterCount ls t)
-  pub answers : past ≡ false → after ≡ kept (remainTable ns ls t (laterCount ls t)) before
-
--- the name words, as a part of the words
-unfoldable pub nameWords : List ℕ → List ℕ
-nameWords w = take (nameCount w) (drop namesStart w)
+-- ---- one size
 
 -- what one size comes to: past exactly when its touches exceed the budget; otherwise the answers hold the counts of those left at their places
 pub record Sized (w : List ℕ) (y : ℕ) (features : List ℕ) (t budget : ℕ) (before after : List ℕ) (past : Bool) (touches : ℕ) : Type 0 where

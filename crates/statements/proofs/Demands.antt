@@ -28,7 +28,8 @@ use Rattle.words.specs.Words.{nameCount, nameId, nameSize}
 use Rattle.index.specs.Good.{goodOf, Good}
 use Rattle.lists.specs.Lists.{listIn, featuresIn}
 use Rattle.lists.proofs.Laws.{features-member}
-use Rattle.search.specs.Method.{namesOf, sharedWith, listsFor, heldBy, listed, touchesAt, touchesOfSize, touchesOf, answersOf}
+use Rattle.candidates.specs.Method.{heldBy}
+use Rattle.search.specs.Method.{namesOf, sharedWith, listsFor, listed, touchesAt, touchesOfSize, touchesOf, answersOf}
 use Rattle.search.specs.Answers.{numberIn, rowsIn, touchesIn, thresholdP, thresholdQ, questionOf, refusalOf, searchGoodOf, searchOf, givenBy, idColumn, sharedColumn, sizeColumn, over, roomOf}
 use Rattle.search.specs.declared.Answer.{Answer}
 use Rattle.search.specs.declared.Answer.the-variants.{Found, Refused}

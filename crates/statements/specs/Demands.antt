@@ -31,7 +31,8 @@ use Rattle.frames.specs.declared.EndRead.the-variants.{End}
 use Rattle.frames.specs.declared.RefusalRead.the-variants.{Refusal}
 use Rattle.register.specs.Lines.{linesOf, nthLine}
 use Rattle.register.specs.Build.{idIn, nameOf, entryOf, judgeNth, builtOf, wordsAfter}
-use Rattle.search.specs.Method.{namesOf, listsFor, signatures, signaturePostings, remaining, touchesOfSize, touchesOf, answersOf}
+use Rattle.candidates.specs.Method.{signatures, signaturePostings}
+use Rattle.search.specs.Method.{namesOf, listsFor, remaining, touchesOfSize, touchesOf, answersOf}
 use Rattle.search.specs.Answers.{numberIn, rowsIn, touchesIn, thresholdP, thresholdQ, searchOf, givenBy, roomOf, over, idColumn, sharedColumn, sizeColumn}
 use Rattle.search.specs.declared.Answer.{Answer}
 use Rattle.answers.specs.Output.{mostInput, registerEnd, programWords, openedOf, openWords, lineText, refusalLine, answersText, outputOf}

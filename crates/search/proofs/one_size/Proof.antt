@@ -12,8 +12,10 @@ use lib.ListN.{length, getD, take, drop, replicate, length-append}
 use lib.Seq.{length-take-le, take-at}
 use Rattle.laws.specs.Lists.{Ascending}
 use Rattle.index.specs.Good.{mostNames}
-use Rattle.search.specs.Method.{listsFor, signatures, laterCount, touchesAt}
-use Rattle.search.specs.Tables.{Names, Readable, filledOf, cutLists, nameWords, postingsOf, laterTouches, remainTable, kept, Asked, Walked, Sized}
+use Rattle.candidates.specs.Method.{signatures, laterCount}
+use Rattle.candidates.specs.Tables.{Names, Readable, cutLists, postingsOf, laterTouches, remainTable, kept, Walked}
+use Rattle.search.specs.Method.{listsFor, touchesAt}
+use Rattle.search.specs.Tables.{filledOf, nameWords, Asked, Sized}
 use Rattle.search.proofs.Size.{names-fine, names-rise, length-keys, cut-lists, cut-readable, touches-at}
 use Rattle.search.proofs.Idle.{idle-touches, idle-answers}
 use Rattle.search.proofs.one_size.Statement.{statement}

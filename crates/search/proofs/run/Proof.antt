@@ -16,8 +16,9 @@ use Rattle.likeness.specs.declared.Threshold.{Threshold}
 use Rattle.words.specs.Words.{nameCount, nameId, nameSize}
 use Rattle.index.specs.Good.{mostNames}
 use Rattle.index.proofs.Laws.{good-three, good-within, good-names-most}
+use Rattle.candidates.specs.Tables.{idAt}
 use Rattle.search.specs.Method.{sizesEnd, touchesOf, answersOf, sharedWith}
-use Rattle.search.specs.Tables.{idAt, nameWords, Asked, answersTable, placesIn, Covered}
+use Rattle.search.specs.Tables.{nameWords, Asked, answersTable, placesIn, Covered}
 use Rattle.search.specs.Answers.{roomOf, givenBy, over}
 use Rattle.search.specs.declared.Answer.{Answer}
 use Rattle.search.specs.declared.Answer.the-variants.{Found, Refused}

@@ -14,9 +14,11 @@ use Rattle.likeness.specs.Least.{leastCount}
 use Rattle.likeness.proofs.Least.{least-pos, least-within}
 use Rattle.likeness.proofs.Sizes.{searched-good}
 use Rattle.index.specs.Good.{mostNames}
-use Rattle.search.specs.Method.{listsFor, laterCount, touchesAt, touchesOfSize}
-use Rattle.search.specs.Tables.{presentAt, nameWords, remainTable, kept, Sized, Stepped, answersTable}
-use Rattle.search.proofs.Places.{present-none, present-of-none}
+use Rattle.candidates.specs.Method.{laterCount}
+use Rattle.candidates.specs.Tables.{remainTable, kept}
+use Rattle.search.specs.Method.{listsFor, touchesAt, touchesOfSize}
+use Rattle.search.specs.Tables.{presentAt, nameWords, Sized, Stepped, answersTable}
+use Rattle.search.proofs.Present.{present-none, present-of-none}
 use Rattle.search.proofs.Work.{nobody-zero}
 use Rattle.search.proofs.Answering.{answers-skipped, unsearched, nobody, answers-searched, length-answers, touches-searched, touches-unsearched, touches-nobody}
 use Rattle.search.proofs.size_step.Statement.{statement}

@@ -4,7 +4,8 @@ use mathlib.Core.List.{List, [], _∷_, _++_, map}
 use Prim.Native.Nat.{ℕ, _+_, _/_, _%_, _≤_, _<_, _-_}
 use native.Mathlib.Omega.{arith}
 use lib.ListN.{length, getD, set, length-set, length-append}
-use Rattle.search.specs.Tables.{idAt, placesIn}
+use Rattle.candidates.specs.Tables.{idAt}
+use Rattle.search.specs.Tables.{placesIn}
 use Rattle.search.specs.Answers.{over}
 use Rattle.search.proofs.Rows.{places-nil, places-met, places-passed, places-up, over-more}
 use Rattle.search.proofs.write_rows.Statement.{statement}

@@ -7,10 +7,10 @@ use native.Mathlib.Omega.{arith}
 use lib.ListN.{length, getD, set, length-set}
 use Rattle.laws.specs.Lists.{member}
 use Rattle.index.specs.Good.{mostNames}
-use Rattle.search.specs.Tables.{idAt, MetBy, testedAt, tested}
-use Rattle.search.proofs.Testing.{Testing, testing-starts, testing-drops, testing-keeps, testing-ends, next-candidate, count-before, count-positive, place-within, tested-drops, tested-stays}
-use Rattle.search.proofs.sift.Statement.{statement}
-use Rattle.search.proofs.sift.Tie as tie
+use Rattle.candidates.specs.Tables.{idAt, MetBy, testedAt, tested}
+use Rattle.candidates.proofs.Testing.{Testing, testing-starts, testing-drops, testing-keeps, testing-ends, next-candidate, count-before, count-positive, place-within, tested-drops, tested-stays}
+use Rattle.candidates.proofs.sift.Statement.{statement}
+use Rattle.candidates.proofs.sift.Tie as tie
 
 abbrev Inv-loop : tie.InvT-loop
 Inv-loop names list counts₀ met₀ already left least m₀ next₀ k₀ counts met m next k =

@@ -9,11 +9,11 @@ use lib.ListN.{length, getD, take}
 use borrow.Author.Tests.{lt-ltb, le-ltb}
 use Rattle.laws.specs.Below.{countBelow}
 use Rattle.index.specs.Good.{mostNames}
-use Rattle.search.specs.Method.{signatures, laterCount}
-use Rattle.search.specs.Tables.{MetBy, tested, cutLists, remainTable, remainsAt, laterTouches, Narrowed}
-use Rattle.search.proofs.Counts.{length-cut, getD-cut, length-remain, remain-most, remain-names, remain-count, remain-step, later-step, later-up, later-nil}
-use Rattle.search.proofs.narrow.Statement.{statement}
-use Rattle.search.proofs.narrow.Tie as tie
+use Rattle.candidates.specs.Method.{signatures, laterCount}
+use Rattle.candidates.specs.Tables.{MetBy, tested, cutLists, remainTable, remainsAt, laterTouches, Narrowed}
+use Rattle.candidates.proofs.Counts.{length-cut, getD-cut, length-remain, remain-most, remain-names, remain-count, remain-step, later-step, later-up, later-nil}
+use Rattle.candidates.proofs.narrow.Statement.{statement}
+use Rattle.candidates.proofs.narrow.Tie as tie
 
 abbrev Inv-loop : tie.InvT-loop
 Inv-loop words names keys starts least budget counts₀ met₀ already x m₀ touches₀ k₀ counts met m touches k =

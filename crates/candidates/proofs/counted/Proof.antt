@@ -5,8 +5,8 @@ use native.Mathlib.Omega.{arith}
 use borrow.Author.Needs.{needs}
 use Rattle.laws.specs.Lists.{member}
 use Rattle.halving.proofs.Search.{place-split, place-stands}
-use Rattle.search.proofs.counted.Statement.{statement}
-use Rattle.search.proofs.counted.Tie as tie
+use Rattle.candidates.proofs.counted.Statement.{statement}
+use Rattle.candidates.proofs.counted.Tie as tie
 
 -- whether the list holds the id
 held : (c : tie.After-stands-at) → c .stands-at .result ≡ member (c .before .before .before .args .id) (c .before .before .before .args .list .now)

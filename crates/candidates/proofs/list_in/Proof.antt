@@ -7,11 +7,11 @@ use native.Mathlib.Omega.{arith}
 use borrow.Author.Needs.{needs}
 use lib.ListN.{length, getD, take, drop, length-drop, length-take}
 use Rattle.index.specs.Good.{mostNames}
-use Rattle.search.specs.Tables.{cutAt}
-use Rattle.search.proofs.list_in.Statement.{statement}
-use Rattle.search.proofs.list_in.Tie as tie
-use Rattle.search.proofs.list_in.Reads as reads
-use Rattle.search.proofs.list_in.Lts as lts
+use Rattle.candidates.specs.Tables.{cutAt}
+use Rattle.candidates.proofs.list_in.Statement.{statement}
+use Rattle.candidates.proofs.list_in.Tie as tie
+use Rattle.candidates.proofs.list_in.Reads as reads
+use Rattle.candidates.proofs.list_in.Lts as lts
 
 mul-key : tie.Need-mul-key
 mul-key c = search needs

@@ -5,9 +5,9 @@ use Prim.Native.Nat.{ℕ, _+_, _≤_, _<_, _-_}
 use native.Mathlib.Omega.{arith}
 use lib.ListN.{length, getD, length-set}
 use Rattle.index.specs.Good.{mostNames}
-use Rattle.search.proofs.Places.{Keeps, keeps-nil, keeps-step, keeps-ends, met-within}
-use Rattle.search.proofs.keep.Statement.{statement}
-use Rattle.search.proofs.keep.Tie as tie
+use Rattle.candidates.proofs.Places.{Keeps, keeps-nil, keeps-step, keeps-ends, met-within}
+use Rattle.candidates.proofs.keep.Statement.{statement}
+use Rattle.candidates.proofs.keep.Tie as tie
 
 abbrev Inv-loop : tie.InvT-loop
 Inv-loop counts met m answers₀ k₀ answers k =

@@ -19,10 +19,10 @@ use Rattle.laws.proofs.Tables.{table-of}
 use Rattle.laws.proofs.Tests.{same-test, and-parts}
 use Rattle.laws.proofs.Order.{le-or-lt}
 use Rattle.index.specs.Good.{mostNames}
-use Rattle.search.specs.Method.{heldBy, signatures, remains, laterCount}
-use Rattle.search.specs.Tables.{idAt, holdsAt, MetBy, tallied, testedAt, tested, cutAt, cutLists, Readable, heldTable, remainsAt, remainTable, laterTouches}
-use Rattle.search.proofs.Candidates.{held-step, held-nil, remains-closed}
-use Rattle.search.proofs.Tables.{met-count}
+use Rattle.candidates.specs.Method.{heldBy, signatures, remains, laterCount}
+use Rattle.candidates.specs.Tables.{idAt, holdsAt, MetBy, tallied, testedAt, tested, cutAt, cutLists, Readable, heldTable, remainsAt, remainTable, laterTouches}
+use Rattle.candidates.proofs.Candidates.{held-step, held-nil, remains-closed}
+use Rattle.candidates.proofs.Tables.{met-count}
 
 -- ---- sums of lengths
 

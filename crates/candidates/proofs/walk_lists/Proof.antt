@@ -8,11 +8,11 @@ use borrow.Author.Needs.{needs}
 use borrow.Author.Tests.{lt-ltb, le-ltb, ltb-true, ltb-false}
 use lib.ListN.{length, take, replicate, length-replicate}
 use Rattle.index.specs.Good.{mostNames}
-use Rattle.search.specs.Method.{signatures, laterCount}
-use Rattle.search.specs.Tables.{MetBy, cutLists, heldTable, remainTable, laterTouches, postingsOf, kept, Gathered, Narrowed, Walked}
-use Rattle.search.proofs.Counts.{length-cut, zeros, remain-starts, length-remain}
-use Rattle.search.proofs.walk_lists.Statement.{statement}
-use Rattle.search.proofs.walk_lists.Tie as tie
+use Rattle.candidates.specs.Method.{signatures, laterCount}
+use Rattle.candidates.specs.Tables.{MetBy, cutLists, heldTable, remainTable, laterTouches, postingsOf, kept, Gathered, Narrowed, Walked}
+use Rattle.candidates.proofs.Counts.{length-cut, zeros, remain-starts, length-remain}
+use Rattle.candidates.proofs.walk_lists.Statement.{statement}
+use Rattle.candidates.proofs.walk_lists.Tie as tie
 
 sub-gather : tie.Need-sub-gather
 sub-gather c = search needs

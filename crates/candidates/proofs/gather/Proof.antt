@@ -10,11 +10,11 @@ use borrow.Author.Tests.{lt-ltb, le-ltb}
 use Rattle.laws.specs.Lists.{sumOf, tabulate}
 use Rattle.laws.proofs.Lists.{length-tabulate}
 use Rattle.index.specs.Good.{mostNames}
-use Rattle.search.specs.Tables.{MetBy, tallied, cutAt, cutLists, heldTable, postingsOf, Gathered}
-use Rattle.search.proofs.Tables.{met-nil}
-use Rattle.search.proofs.Counts.{postings-step, postings-up, held-table-nil, held-table-step, held-table-most, length-cut, getD-cut, zero-table}
-use Rattle.search.proofs.gather.Statement.{statement}
-use Rattle.search.proofs.gather.Tie as tie
+use Rattle.candidates.specs.Tables.{MetBy, tallied, cutAt, cutLists, heldTable, postingsOf, Gathered}
+use Rattle.candidates.proofs.Tables.{met-nil}
+use Rattle.candidates.proofs.Counts.{postings-step, postings-up, held-table-nil, held-table-step, held-table-most, length-cut, getD-cut, zero-table}
+use Rattle.candidates.proofs.gather.Statement.{statement}
+use Rattle.candidates.proofs.gather.Tie as tie
 
 abbrev Inv-loop : tie.InvT-loop
 Inv-loop words names keys starts signatures budget counts₀ met₀ m₀ touches₀ k₀ counts met m touches k =

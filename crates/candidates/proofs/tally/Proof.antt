@@ -9,11 +9,11 @@ use lib.Seq.{take-all}
 use Rattle.laws.proofs.Members.{member-at}
 use Rattle.laws.proofs.Sort.{ascending-distinct}
 use Rattle.index.specs.Good.{mostNames}
-use Rattle.search.specs.Tables.{idAt, Names, Named, MetBy, tallied}
-use Rattle.search.proofs.Tables.{tallied-nil, tallied-step, tallied-bound, name-place, met-room, met-push, met-keep}
-use Rattle.search.proofs.Testing.{distinct-fresh}
-use Rattle.search.proofs.tally.Statement.{statement}
-use Rattle.search.proofs.tally.Tie as tie
+use Rattle.candidates.specs.Tables.{idAt, Names, Named, MetBy, tallied}
+use Rattle.candidates.proofs.Tables.{tallied-nil, tallied-step, tallied-bound, name-place, met-room, met-push, met-keep}
+use Rattle.candidates.proofs.Testing.{distinct-fresh}
+use Rattle.candidates.proofs.tally.Statement.{statement}
+use Rattle.candidates.proofs.tally.Tie as tie
 
 abbrev Inv-loop : tie.InvT-loop
 Inv-loop names list counts₀ met₀ already m₀ next₀ k₀ counts met m next k =

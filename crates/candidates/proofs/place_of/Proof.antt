@@ -1,9 +1,9 @@
 -- `place_of` meets its contract: the name that has the id stands at its place.
 use mathlib.Core.Path.{sym}
 use borrow.Author.Needs.{needs}
-use Rattle.search.proofs.Tables.{name-place}
-use Rattle.search.proofs.place_of.Statement.{statement}
-use Rattle.search.proofs.place_of.Tie as tie
+use Rattle.candidates.proofs.Tables.{name-place}
+use Rattle.candidates.proofs.place_of.Statement.{statement}
+use Rattle.candidates.proofs.place_of.Tie as tie
 
 mul-if2 : tie.Need-mul-if2
 mul-if2 c = search needs

@@ -20,7 +20,7 @@ use Rattle.laws.proofs.Order.{eq-or-ne, le-or-lt}
 use Rattle.laws.specs.Below.{countBelow}
 use Rattle.laws.proofs.Below.{count-below-fewer}
 use Rattle.index.specs.Good.{mostNames}
-use Rattle.search.specs.Tables.{idAt, holdsAt, Names, Named, MetBy, tallied, testedAt, tested}
+use Rattle.candidates.specs.Tables.{idAt, holdsAt, Names, Named, MetBy, tallied, testedAt, tested}
 
 -- ---- ids are told apart by their places
 

@@ -1,5 +1,5 @@
 -- Laws of the candidates of one size, on plain lists: who remains after d later features, and who is left at the end.
--- Cited by Laws.antt and by the proofs of the code.
+-- Cited by the laws of the search and by the proofs of the code.
 -- Assumes nothing.
 use mathlib.Core.Path.{_≡_, refl, sym, ap, ap₂, _∙_}
 use mathlib.Core.Bool.{Bool, true, false, cond, _&&_}
@@ -7,15 +7,15 @@ use mathlib.Core.List.{List, [], _∷_, _++_}
 use Prim.Native.Nat.{ℕ, zero, suc, _+_, _-_, _≤_, _<_}
 use native.Mathlib.Numerals.{add-one}
 use native.Mathlib.Omega.{arith}
-use lib.ListN.{length, getD, take}
+use lib.ListN.{length, getD, take, drop, take-append-drop}
 use lib.Seq.{take-suc, take-all}
 use lib.Dec.{leb}
 use borrow.Author.Tests.{le-leb, leb-true}
 use Rattle.laws.specs.Lists.{member, countOf}
 use Rattle.laws.proofs.Lists.{count-append}
 use Rattle.laws.proofs.Tests.{same-test, and-parts}
-use Rattle.laws.proofs.Below.{and-both}
-use Rattle.search.specs.Method.{heldBy, signatures, remains, laterCount}
+use Rattle.laws.proofs.Below.{and-left, and-both, and-false-left}
+use Rattle.candidates.specs.Method.{heldBy, signatures, remains, laterCount}
 
 -- ---- the count of one more list
 
@@ -84,3 +84,49 @@ module _ (ls : List (List ℕ)) (t : ℕ) (low : 1 ≤ t) (high : t ≤ length l
       ∙ ap (λ (n : ℕ). leb t (heldBy (take n ls) id + (length ls - n))) e
       ∙ ap₂ (λ (a b : ℕ). leb t (a + b)) (held-all ls id (length ls) (omega arith)) z
       ∙ ap (leb t) (let y : heldBy ls id + 0 ≡ heldBy ls id = omega arith in y)
+
+-- ---- who was met
+
+count-take : {A : Type 0} (t : A → Bool) (n : ℕ) (l : List A) → countOf t (take n l) ≤ countOf t l
+count-take t n l =
+    let e = count-append t (take n l) (drop n l) in
+    let f = ap (countOf t) (take-append-drop n l) in
+    omega arith
+
+held-take : (ls : List (List ℕ)) (n id : ℕ) → heldBy (take n ls) id ≤ heldBy ls id
+unfolding heldBy
+held-take ls n id = count-take (λ (l : List ℕ). member id l) n ls
+
+-- who remains was met
+pub remains-met : (ls : List (List ℕ)) (t d id : ℕ) → remains ls t d id ≡ true → 1 ≤ heldBy ls id
+unfolding remains
+remains-met ls t zero id e =
+    let a = leb-true 1 (heldBy (take (signatures (length ls) t) ls) id) e in
+    let b = held-take ls (signatures (length ls) t) id in
+    omega arith
+remains-met ls t (suc d) id e =
+    remains-met ls t d id (and-parts (remains ls t d id) (leb t (heldBy (take (signatures (length ls) t + suc d) ls) id + (length ls - (signatures (length ls) t + suc d)))) e .0)
+
+-- those left only become fewer
+pub remains-less : (ls : List (List ℕ)) (t d id : ℕ) → remains ls t (suc d) id ≡ true → remains ls t d id ≡ true
+unfolding remains
+remains-less ls t d id e = and-left (remains ls t d id) (leb t (heldBy (take (signatures (length ls) t + suc d) ls) id + (length ls - (signatures (length ls) t + suc d)))) e
+
+-- lists whose first n are empty hold no id there
+pub no-holder : (n : ℕ) (ls : List (List ℕ)) (id : ℕ) → ((k : ℕ) → k < n → getD ls k [] ≡ []) → heldBy (take n ls) id ≡ 0
+unfolding heldBy countOf member
+no-holder zero ls id h = refl
+no-holder (suc n) [] id h = refl
+no-holder (suc n) (l ∷ ls) id h =
+    let e : _≡_ {A = ℕ} (cond (member id l) 1 0) 0 = ap (λ (r : List ℕ). cond (member id r) 1 0) (h 0 (omega arith)) in
+    let r = no-holder n ls id (λ k p. h (suc k) (omega arith)) in
+    omega arith
+
+-- who is not met does not remain
+pub unmet : (ls : List (List ℕ)) (t id : ℕ) → heldBy (take (signatures (length ls) t) ls) id ≡ 0 → (d : ℕ) → remains ls t d id ≡ false
+unfolding remains
+unmet ls t id e zero = ap (leb 1) e
+unmet ls t id e (suc d) =
+    and-false-left (remains ls t d id)
+    (leb t (heldBy (take (signatures (length ls) t + suc d) ls) id + (length ls - (signatures (length ls) t + suc d))))
+    (unmet ls t id e d)

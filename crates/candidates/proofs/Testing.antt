@@ -1,4 +1,4 @@
--- Laws of the test of each candidate against one later list: what the tables hold after k candidates. Cited by the proof of `test`.
+-- Laws of the test of each candidate against one later list: what the tables hold after k candidates. Cited by the proof of `sift`.
 -- Assumes nothing.
 use mathlib.Core.Path.{_≡_, refl, sym, ap, ap₂, _∙_}
 use mathlib.Core.Logic.{_⊎_, ⊎-elim}
@@ -18,7 +18,7 @@ use Rattle.laws.proofs.Filter.{filter-nil, filter-snoc, length-filter, member-f
 use Rattle.laws.proofs.Tables.{table-of}
 use Rattle.laws.proofs.Order.{eq-or-ne, le-or-lt}
 use Rattle.index.specs.Good.{mostNames}
-use Rattle.search.specs.Tables.{idAt, holdsAt, MetBy, testedAt, tested}
+use Rattle.candidates.specs.Tables.{idAt, holdsAt, MetBy, testedAt, tested}
 
 -- the element at a place is in the list
 member-at : (l : List ℕ) (k : ℕ) → k < length l → member (getD l k 0) l ≡ true

@@ -1,0 +1,5 @@
+pub mod Candidates
+pub mod Tables
+pub mod Testing
+pub mod Counts
+pub mod Places
