@@ -13,7 +13,8 @@ use borrow.Author.Tests.{lt-ltb, le-ltb, eqb-true}
 use Rattle.laws.specs.Lists.{member, Ascending}
 use Rattle.laws.proofs.Below.{and-left, and-right, any-at}
 use Rattle.laws.proofs.Tests.{test-fails}
-use Rattle.laws.proofs.Ascending.{rises, rises-apart, member-place, ascending-next}
+use Rattle.laws.proofs.Ascending.{rises, rises-apart, ascending-next}
+use Rattle.laws.proofs.Members.{member-place}
 use Rattle.laws.proofs.Halving.{count-below-place}
 use Rattle.words.specs.Words.{nameCount, rowCount, postingCount, nameId, nameSize, rowSize, rowPlace, rowLength, posting, listAt, total}
 use Rattle.index.specs.Good.{mostNames, mostPostings, isName, Good, headGood, namesGood, rowsGood, listsGood, goodOf}

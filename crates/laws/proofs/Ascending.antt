@@ -1,5 +1,5 @@
 -- Laws of ascending sequences and ascending lists, by index, and of what stands in a list, by its place.
--- Cited by `halving` and `index`.
+-- Cited by `halving`, `index`, `lists`, `postings` and `search`.
 -- Assumes nothing.
 use mathlib.Core.Path.{_≡_, refl, sym, ap, subst, _∙_}
 use mathlib.Core.Logic.{⊎-elim}
@@ -14,6 +14,7 @@ use lib.Dec.{eqb}
 use borrow.Author.Tests.{eq-eqb, ne-eqb, eqb-true}
 use Rattle.laws.specs.Lists.{member, AllAbove, Ascending}
 use Rattle.laws.proofs.Order.{le-or-lt}
+use Rattle.laws.proofs.Members.{member-place}
 
 -- ---- sequences
 
@@ -43,16 +44,6 @@ rises-apart n f h i j l m e =
     (le-or-lt i j)
 
 -- ---- what stands in a list
-
-pub member-place : (x : ℕ) (l : List ℕ) → member x l ≡ true → (i : ℕ) × (i < length l) × (getD l i 0 ≡ x)
-unfolding member
-member-place x [] e = absurd (false≢true e)
-member-place x (y ∷ l) e = by-test (eqb x y) refl e (member-place x l)
-  where
-    by-test : (b : Bool) → eqb x y ≡ b → b || member x l ≡ true → (member x l ≡ true → (i : ℕ) × (i < length l) × (getD l i 0 ≡ x))
-        → (i : ℕ) × (i < length (y ∷ l)) × (getD (y ∷ l) i 0 ≡ x)
-    by-test true q m r = (0, omega arith, sym (eqb-true x y q))
-    by-test false q m r = let w = r m in (suc (w .0), (let h = w .1 in omega arith), w .2)
 
 pub member-getD : (x : ℕ) (l : List ℕ) (i : ℕ) → i < length l → getD l i 0 ≡ x → member x l ≡ true
 unfolding member

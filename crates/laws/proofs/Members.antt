@@ -1,4 +1,5 @@
--- Laws of the members of a list, and of a statement of each of them. Cited by `sorting`, `postings` and `search`.
+-- Laws of the members of a list, and of a statement of each of them. Cited by `sorting`, `index`, `postings`, `candidates`, `search`,
+-- `answers` and `statements`.
 -- Assumes nothing.
 use mathlib.Core.Path.{_≡_, refl, sym, ap, _∙_}
 use mathlib.Core.Logic.{_⊎_, inl, inr, ⊎-elim}
@@ -12,19 +13,9 @@ use borrow.Author.Tests.{eqb-true}
 use Rattle.laws.specs.Lists.{member, Distinct}
 use Rattle.laws.specs.Each.{Each}
 use Rattle.laws.proofs.Lists.{eqb-same, member-append}
+use Rattle.laws.proofs.Tests.{test-fails}
 
 -- ---- tests
-
--- two tests are one where each follows from the other
-pub bool-same : (a b : Bool) → (a ≡ true → b ≡ true) → (b ≡ true → a ≡ true) → a ≡ b
-bool-same true b f g = sym (f refl)
-bool-same false true f g = g refl
-bool-same false false f g = refl
-
--- a test that cannot pass fails
-pub bool-fails : (a : Bool) → (a ≡ true → ⊥) → a ≡ false
-bool-fails true f = absurd (f refl)
-bool-fails false f = refl
 
 pub or-cases : (a b : Bool) → a || b ≡ true → (a ≡ true) ⊎ (b ≡ true)
 or-cases true b e = inl refl
@@ -107,7 +98,7 @@ pub distinct-append : (k l : List ℕ) → Distinct k → Distinct l → ((x : �
 unfolding Distinct
 distinct-append [] l d c n = c
 distinct-append (x ∷ k) l d c n =
-    (bool-fails (member x (k ++ l)) apart, distinct-append k l (d .1) c (λ y m. n y (member-tail x y k m)))
+    (test-fails (member x (k ++ l)) apart, distinct-append k l (d .1) c (λ y m. n y (member-tail x y k m)))
   where
     apart : member x (k ++ l) ≡ true → ⊥
     apart m =
@@ -122,7 +113,7 @@ pub distinct-map : (f : ℕ → ℕ) (l : List ℕ) → Distinct l
 unfolding Distinct
 distinct-map f [] d n = tt
 distinct-map f (x ∷ l) d n =
-    (bool-fails (member (f x) (map f l)) apart, distinct-map f l (d .1) (λ y z m o. n y z (member-tail x y l m) (member-tail x z l o)))
+    (test-fails (member (f x) (map f l)) apart, distinct-map f l (d .1) (λ y z m o. n y z (member-tail x y l m) (member-tail x z l o)))
   where
     apart : member (f x) (map f l) ≡ true → ⊥
     apart m =

@@ -16,9 +16,11 @@ use lib.Dec.{eqb}
 use Rattle.laws.specs.Lists.{member, Ascending, countOf, tabulate, sumOf}
 use Rattle.laws.specs.Below.{sumBelow}
 use Rattle.laws.specs.Sort.{sortOf}
-use Rattle.laws.proofs.Members.{bool-same, member-place, each-at, each-nil, each-cons, each-append}
+use Rattle.laws.proofs.Members.{member-place, each-at, each-nil, each-cons, each-append}
+use Rattle.laws.proofs.Tests.{same-test}
 use Rattle.laws.proofs.Order.{le-or-lt}
-use Rattle.laws.proofs.Sort.{ascending-nil, ascending-snoc, ascending-lt, ascending-step, ascending-unique, ascending-sort, member-sort, length-sort, count-sort}
+use Rattle.laws.proofs.Sort.{ascending-nil, ascending-snoc, ascending-step, ascending-unique, ascending-sort, member-sort, length-sort, count-sort}
+use Rattle.laws.proofs.Ascending.{ascending-at}
 use Rattle.laws.proofs.Images.{sort-map, count-tabulate, tabulate-of}
 use Rattle.names.specs.Names.{judgeOf}
 use Rattle.names.specs.Features.{characters, mostFeatures, featuresOf}
@@ -333,7 +335,7 @@ module _ (es : List Entry) (fit : Fit es) (rest : List ℕ) where
       → member ((getD es i noEntry) .id) (listIn (wordsOf es ++ rest) (length ((getD es i noEntry) .features)) f)
       ≡ member f ((getD es i noEntry) .features)
   built-list i f h =
-      bool-same
+      same-test
       (member ((getD es i noEntry) .id) (listIn (wordsOf es ++ rest) (length ((getD es i noEntry) .features)) f))
       (member f ((getD es i noEntry) .features))
       (λ m.
@@ -413,7 +415,7 @@ fit-snoc es e fit one few up =
         let k : p .0 ≡ z = omega arith in
         let l = ap (λ (j : ℕ). getD ids j 0) k in
         omega arith)
-        (λ (h : p .0 < z). let l = ascending-lt ids (fit .ids) (p .0) z h (omega arith) in omega arith)
+        (λ (h : p .0 < z). let l = ascending-at ids (fit .ids) (p .0) z h (omega arith) in omega arith)
         (le-or-lt z (p .0))
 
 -- a register name with an id fits

@@ -12,7 +12,7 @@ use lib.Seq.{ext-getD}
 use Rattle.laws.specs.Lists.{member, tabulate}
 use Rattle.laws.specs.Sort.{sortOf}
 use Rattle.laws.proofs.Lists.{length-tabulate, getD-tabulate, tabulate-ext}
-use Rattle.laws.proofs.Members.{bool-same}
+use Rattle.laws.proofs.Tests.{same-test}
 use Rattle.laws.proofs.Sort.{ascending-distinct, ascending-unique, ascending-sort, member-sort, length-sort, sort-same}
 use Rattle.laws.proofs.Images.{ascending-tabulate, map-tabulate, each-tabulate}
 use Rattle.words.specs.Words.{nameCount, rowCount, nameWord, nameId, nameSize, rowSize, rowFeature, listAt, total}
@@ -147,7 +147,7 @@ module _ (w : List ℕ) (g : Good w) (narrow : Narrow w) where
       ascending-unique (triplesFrom (rowsIn w)) (sortOf (allTriples (entriesIn w)))
       (triples-ascending (rowsIn w) (rows-fit w g narrow))
       (ascending-sort (allTriples (entriesIn w)) (distinct-entries (entriesIn w) (good-fit .ids) (good-fit .each)))
-      (λ k. bool-same (member k (triplesFrom (rowsIn w))) (member k (allTriples (entriesIn w))) (there k) (back k) ∙ sym (member-sort k (allTriples (entriesIn w))))
+      (λ k. same-test (member k (triplesFrom (rowsIn w))) (member k (allTriples (entriesIn w))) (there k) (back k) ∙ sym (member-sort k (allTriples (entriesIn w))))
     where
       there : (k : ℕ) → member k (triplesFrom (rowsIn w)) ≡ true → member k (allTriples (entriesIn w)) ≡ true
       there k m =

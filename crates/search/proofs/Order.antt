@@ -15,7 +15,8 @@ use Rattle.laws.proofs.Tests.{same-test}
 use Rattle.laws.proofs.Lists.{length-tabulate, getD-tabulate, distinct-tabulate}
 use Rattle.laws.proofs.Order.{le-or-lt}
 use Rattle.laws.proofs.Members.{member-head, member-tail, member-cases, member-nil, member-at, member-place, member-map, member-map-place, distinct-map, each-member}
-use Rattle.laws.proofs.Sort.{above-members, ascending-nil, ascending-cons, ascending-above, ascending-rest, above-member, ascending-lt, ascending-sort, ascending-unique, member-sort, length-sort}
+use Rattle.laws.proofs.Sort.{above-members, ascending-nil, ascending-cons, ascending-above, ascending-rest, above-member, ascending-sort, ascending-unique, member-sort, length-sort}
+use Rattle.laws.proofs.Ascending.{ascending-at}
 use Rattle.words.specs.Words.{featureSpan, keyOf}
 use Rattle.lists.specs.Lists.{listIn}
 use Rattle.search.specs.Method.{orderedFor, listsFor}
@@ -121,7 +122,7 @@ module _ (w : List ℕ) (y : ℕ) (query : List ℕ) (asked : Query query) (few 
           ⊎-elim
           (λ (c : j ≤ i). omega arith)
           (λ (c : i < j).
-          let r = ascending-lt sorted (ascending-sort query (asked .distinct)) i j c (rw (length-sort query) hj) in
+          let r = ascending-at sorted (ascending-sort query (asked .distinct)) i j c (rw (length-sort query) hj) in
           omega arith)
           (le-or-lt j i)
 

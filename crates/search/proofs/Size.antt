@@ -21,7 +21,8 @@ use Rattle.laws.proofs.Below.{sum-below-ext, sum-below-step, count-below-most}
 use Rattle.laws.proofs.Tests.{same-test, and-parts}
 use Rattle.laws.proofs.Below.{and-both}
 use Rattle.laws.proofs.Order.{le-or-lt}
-use Rattle.laws.proofs.Sort.{ascending-sorted, ascending-distinct, sort-sorted, ascending-of}
+use Rattle.laws.proofs.Sort.{ascending-sorted, ascending-distinct, sort-sorted}
+use Rattle.laws.proofs.Ascending.{ascending-next}
 use Rattle.words.specs.Words.{nameCount, nameWord, nameId, nameSize, namesStart}
 use Rattle.index.specs.Good.{Good, mostNames}
 use Rattle.index.proofs.Laws.{good-names-most, good-within, good-ids, good-ids-apart}
@@ -67,7 +68,7 @@ module _ (w : List ℕ) (good : Good w) where
 
   pub names-rise : Ascending (nameWords w)
   names-rise =
-      ascending-of (nameWords w)
+      ascending-next (nameWords w)
       (λ i h. let r = names-fine .rising i (i + 1) (omega arith) h in omega arith)
 
 -- ---- the features
