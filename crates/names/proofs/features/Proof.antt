@@ -1,13 +1,13 @@
 -- `features` meets its contract: after i turns the set's places hold the first i features, and 0 after them, and each of their grams has its mark.
-use mathlib.Core.Path.{_≡_, refl, sym, ap, ap₂, _∙_}
+use mathlib.Core.Path.{_≡_, refl, sym, ap, _∙_}
 use mathlib.Core.List.{List, _++_}
-use Prim.Native.Nat.{ℕ, _+_, _*_, _/_, _%_, _≤_, _-_}
+use Prim.Native.Nat.{ℕ, _+_, _%_, _≤_, _-_}
 use native.Mathlib.Omega.{arith}
 use borrow.Author.Needs.{needs}
-use lib.ListN.{length, replicate, getD, length-set}
+use lib.ListN.{length, replicate, length-set}
 use Rattle.laws.specs.Lists.{tabulate}
-use Rattle.laws.proofs.Lists.{tabulate-nil, set-tabulate}
-use Rattle.names.specs.Features.{gramAt, numbered, featuresOf}
+use Rattle.laws.proofs.Lists.{tabulate-nil}
+use Rattle.names.specs.Features.{gramAt, numbered}
 use Rattle.names.specs.Set.{filled, marks}
 use Rattle.names.specs.declared.FeatureSet.{FeatureSet}
 use Rattle.names.proofs.Laws.{good-name, features-refused, features-good}
