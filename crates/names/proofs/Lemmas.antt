@@ -16,7 +16,7 @@ use Rattle.laws.proofs.Order.{le-or-lt, eq-or-ne}
 use Rattle.laws.specs.Lists.{tabulate}
 use Rattle.laws.proofs.Lists.{length-tabulate, getD-tabulate, set-tabulate}
 use Rattle.names.specs.Features.{padded, joined, gramAt, timesIn, numberAt, numbers, numbered, gramLength, characters, mostFeatures, featuresBy}
-use Rattle.names.specs.Set.{filled, marks}
+use Rattle.names.specs.Set.{filled, marks, Ends}
 use Rattle.names.specs.declared.FeatureSet.{FeatureSet}
 
 -- ---- the padded name
@@ -64,6 +64,13 @@ unfolding gramAt joined
 gram-three s i a b c p q r =
     let z : getD (padded gramLength s) (i + 0) 0 ≡ a = rw add-zero (sym p) in
     omega arith
+
+-- before the first gram there are zeros
+pub ends-nil : (s : List ℕ) → Ends s 0 0
+ends-nil s =
+    let a = pad-low gramLength s 0 (omega arith) in
+    let b = pad-low gramLength s 1 (omega arith) in
+    (omega arith, omega arith)
 
 -- ---- how often a value stands among the first
 

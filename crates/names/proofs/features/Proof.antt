@@ -8,19 +8,19 @@ use lib.ListN.{length, replicate, length-set}
 use Rattle.laws.specs.Lists.{tabulate}
 use Rattle.laws.proofs.Lists.{tabulate-nil}
 use Rattle.names.specs.Features.{gramAt, numbered}
-use Rattle.names.specs.Set.{filled, marks}
+use Rattle.names.specs.Set.{filled, marks, Ends}
 use Rattle.names.specs.declared.FeatureSet.{FeatureSet}
 use Rattle.names.proofs.Laws.{good-name, features-refused, features-good}
-use Rattle.names.proofs.Lemmas.{next-feature, filled-whole, Marked, marked-nil, marked-step, marked-none}
+use Rattle.names.proofs.Lemmas.{next-feature, filled-whole, Marked, marked-nil, marked-step, marked-none, ends-nil}
 use Rattle.names.proofs.features.Statement.{statement}
 use Rattle.names.proofs.features.Tie as tie
 
 abbrev Inv-loop : tie.InvT-loop
-Inv-loop name set₀ marked₀ size i₀ set marked i =
-    (i ≤ size) × (size ≤ 66) × (set .items ≡ tabulate (numbered (gramAt 3 256 name)) i ++ replicate (66 - i) 0) × (length marked ≡ marks) × Marked (gramAt 3 256 name) i marked
+Inv-loop name set₀ marked₀ size gram₀ i₀ set marked gram i =
+    (i ≤ size) × (size ≤ 66) × (set .items ≡ tabulate (numbered (gramAt 3 256 name)) i ++ replicate (66 - i) 0) × (length marked ≡ marks) × Marked (gramAt 3 256 name) i marked × Ends name i gram
 
 abbrev μ-loop : tie.MeasureT-loop
-μ-loop name set₀ marked₀ size i₀ set marked i = size - i
+μ-loop name set₀ marked₀ size gram₀ i₀ set marked gram i = size - i
 
 empty-requires : tie.Need-empty-requires Inv-loop μ-loop
 empty-requires c κs = search needs
@@ -46,10 +46,11 @@ loop-holds c =
           ∙ ap (λ (l : List ℕ). l ++ replicate 66 0) (sym (tabulate-nil (numbered (gramAt 3 256 name)))),
       refl,
       marked-nil (gramAt 3 256 name) (replicate marks 0),
+      ends-nil name,
     )
 
-gram-at-requires : tie.Need-gram-at-requires Inv-loop μ-loop
-gram-at-requires c κs = omega arith
+next-gram-requires : tie.Need-next-gram-requires Inv-loop μ-loop
+next-gram-requires c κs = (omega arith, c .before .loop .inv .5)
 
 slice-aggregate-times-marked : tie.Need-slice-aggregate-times-marked Inv-loop μ-loop
 slice-aggregate-times-marked c = search needs
@@ -61,7 +62,7 @@ times-marked-requires c κs =
       omega arith,
       omega arith,
       l .inv .3,
-      marked-none (gramAt 3 256 name) 66 (l .i) (l .set .items) (l .marked) (c .before .before .before .before .gram-at .result) (omega arith) (l .inv .2) (l .inv .4),
+      marked-none (gramAt 3 256 name) 66 (l .i) (l .set .items) (l .marked) (c .before .before .before .before .next-gram .result) (omega arith) (l .inv .2) (l .inv .4),
     )
 
 add-number : tie.Need-add-number Inv-loop μ-loop
@@ -95,13 +96,14 @@ loop-again : tie.Need-loop-again Inv-loop μ-loop
 loop-again c =
     let l = c .before .before .before .before .before .before .before .before in
     let name = l .before .before .before .before .before .args .name .now in
-    let g = c .before .before .before .before .before .before .gram-at in
+    let g = c .before .before .before .before .before .before .next-gram in
     let t = c .before .times-marked in (
       omega arith,
       l .loop .inv .1,
       next-feature (gramAt 3 256 name) 66 (l .loop .i) (l .loop .set .items) (g .result) (t .result) (omega arith) (omega arith) (l .loop .inv .2) (g .ensures .0) (t .ensures .0),
       simp length-set (l .loop .inv .3),
       marked-step (gramAt 3 256 name) (l .loop .i) (l .loop .marked) (c .mark-place .result) (l .loop .inv .3) (c .mark-place .ensures .0 ∙ ap (λ (x : ℕ). x % marks) (g .ensures .0)) (l .loop .inv .4),
+      g .ensures .2,
     )
 
 returns-2 : tie.Need-returns-2 Inv-loop μ-loop
@@ -124,7 +126,7 @@ features-spec =
     returns
     add-size
     loop-holds
-    gram-at-requires
+    next-gram-requires
     slice-aggregate-times-marked
     times-marked-requires
     add-number
