@@ -336,7 +336,26 @@ fn build_with(
 }
 
 // Builds the index of a short register: small tables do, and are soon set to 0.
-fn build_short(register: &[u8], words: &mut [u32]) -> Built
+fn build_small(register: &[u8], words: &mut [u32]) -> Built
+    requires { ⌜ length (now register) ≤ 1024 ⌝ }
+    ensures { λ r. ⌜ (r ≡ builtOf (now (register .entry)) (length (now (words .entry)))) × (now (words .exit) ≡ wordsAfter (now (register .entry)) (now (words .entry))) ⌝ }
+{
+    let mut name = [0u8; 255];
+    let mut names = [0u32; 256];
+    let mut triples = [0u64; 512];
+    let mut spare = [0u64; 512];
+    build_with(
+        register,
+        &mut name,
+        &mut names,
+        &mut triples,
+        &mut spare,
+        words,
+    )
+}
+
+// The same for one that is not so short.
+fn build_middle(register: &[u8], words: &mut [u32]) -> Built
     requires { ⌜ length (now register) ≤ 4096 ⌝ }
     ensures { λ r. ⌜ (r ≡ builtOf (now (register .entry)) (length (now (words .entry)))) × (now (words .exit) ≡ wordsAfter (now (register .entry)) (now (words .entry))) ⌝ }
 {
@@ -355,7 +374,7 @@ fn build_short(register: &[u8], words: &mut [u32]) -> Built
 }
 
 // Builds the index of a register of any length.
-fn build_long(register: &[u8], words: &mut [u32]) -> Built
+fn build_large(register: &[u8], words: &mut [u32]) -> Built
     ensures { λ r. ⌜ (r ≡ builtOf (now (register .entry)) (length (now (words .entry)))) × (now (words .exit) ≡ wordsAfter (now (register .entry)) (now (words .entry))) ⌝ }
 {
     let mut name = [0u8; 255];
@@ -376,8 +395,11 @@ fn build_long(register: &[u8], words: &mut [u32]) -> Built
 pub fn build(register: &[u8], words: &mut [u32]) -> Built
     ensures { λ r. ⌜ (r ≡ builtOf (now (register .entry)) (length (now (words .entry)))) × (now (words .exit) ≡ wordsAfter (now (register .entry)) (now (words .entry))) ⌝ }
 {
-    if register.len() <= 4096 {
-        return build_short(register, words);
+    if register.len() <= 1024 {
+        return build_small(register, words);
     }
-    build_long(register, words)
+    if register.len() <= 4096 {
+        return build_middle(register, words);
+    }
+    build_large(register, words)
 }
