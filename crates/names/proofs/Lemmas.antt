@@ -1,22 +1,22 @@
--- Facts on plain lists and numbers that only this crate needs: the padded name, the joined characters, the count of equal grams.
+-- Facts on plain lists and numbers that only this crate needs: the padded name, the joined characters, the count of equal grams, the marks of grams met.
 -- Assumes nothing.
 use mathlib.Core.Path.{_≡_, refl, sym, ap, ap₂, _∙_}
 use mathlib.Core.Logic.{⊎-elim}
 use mathlib.Core.Bool.{Bool, true, false, cond}
 use mathlib.Core.List.{List, [], _∷_, _++_}
-use Prim.Native.Nat.{ℕ, zero, suc, _+_, _-_, _*_, _/_, _≤_, _<_}
+use Prim.Native.Nat.{ℕ, zero, suc, _+_, _-_, _*_, _/_, _%_, _≤_, _<_}
 use native.Mathlib.Nat.{add-zero}
 use native.Mathlib.Numerals.{add-one}
 use native.Mathlib.Omega.{arith}
 use lib.ListN.{length, getD, set, replicate, length-replicate, getD-replicate, List·getD-append, List·getD-eq-default}
-use lib.Seq.{getD-append-add}
+use lib.Seq.{getD-append-add, getD-set-same, getD-set-other}
 use lib.Dec.{eqb}
 use borrow.Author.Tests.{eq-eqb, ne-eqb}
-use Rattle.laws.proofs.Order.{le-or-lt}
+use Rattle.laws.proofs.Order.{le-or-lt, eq-or-ne}
 use Rattle.laws.specs.Lists.{tabulate}
 use Rattle.laws.proofs.Lists.{length-tabulate, getD-tabulate, set-tabulate}
 use Rattle.names.specs.Features.{padded, joined, gramAt, timesIn, numberAt, numbers, numbered, gramLength, characters, mostFeatures, featuresBy}
-use Rattle.names.specs.Set.{filled}
+use Rattle.names.specs.Set.{filled, marks, Ends}
 use Rattle.names.specs.declared.FeatureSet.{FeatureSet}
 
 -- ---- the padded name
@@ -65,6 +65,13 @@ gram-three s i a b c p q r =
     let z : getD (padded gramLength s) (i + 0) 0 ≡ a = rw add-zero (sym p) in
     omega arith
 
+-- before the first gram there are zeros
+pub ends-nil : (s : List ℕ) → Ends s 0 0
+ends-nil s =
+    let a = pad-low gramLength s 0 (omega arith) in
+    let b = pad-low gramLength s 1 (omega arith) in
+    (omega arith, omega arith)
+
 -- ---- how often a value stands among the first
 
 pub times-nil : (f : ℕ → ℕ) (v : ℕ) → timesIn f v 0 ≡ 0
@@ -107,6 +114,14 @@ gram-of f i h = let n = number-within f i in omega arith
 
 -- ---- one feature more
 
+-- where the places hold the first i features, their grams are the first i
+pub grams-held : (f : ℕ → ℕ) (m i : ℕ) (items : List ℕ) → i < numbers → items ≡ tabulate (numbered f) i ++ replicate (m - i) 0
+    → (j : ℕ) → j < i → getD items j 0 / numbers ≡ f j
+grams-held f m i items k e j l =
+    ap (λ (r : List ℕ). getD r j 0 / numbers) e
+    ∙ ap (λ (x : ℕ). x / numbers) (List·getD-append (tabulate (numbered f) i) (replicate (m - i) 0) 0 j (rw length-tabulate l) ∙ getD-tabulate (numbered f) i j 0 l)
+    ∙ gram-of f j (omega arith)
+
 -- where the places hold the first i features and z after them, the count among their grams and one more is the number of the next
 pub next-feature : (f : ℕ → ℕ) (m i : ℕ) (items : List ℕ) (gram n : ℕ) → i < m → m < numbers
     → items ≡ tabulate (numbered f) i ++ replicate (m - i) 0
@@ -115,14 +130,36 @@ pub next-feature : (f : ℕ → ℕ) (m i : ℕ) (items : List ℕ) (gram n : �
     → set items i (gram * numbers + (n + 1)) ≡ tabulate (numbered f) (i + 1) ++ replicate (m - (i + 1)) 0
 unfolding numbered numberAt
 next-feature f m i items gram n h k e g t =
-    let at : (j : ℕ) → j < i → getD items j 0 / numbers ≡ f j =
-    λ j l.
-    ap (λ (r : List ℕ). getD r j 0 / numbers) e
-    ∙ ap (λ (x : ℕ). x / numbers) (List·getD-append (tabulate (numbered f) i) (replicate (m - i) 0) 0 j (rw length-tabulate l) ∙ getD-tabulate (numbered f) i j 0 l)
-    ∙ gram-of f j (omega arith)
-    in
+    let at = grams-held f m i items (omega arith) e in
     let c : n ≡ timesIn f (f i) i = t ∙ times-ext (λ (j : ℕ). getD items j 0 / numbers) f gram i at ∙ ap (λ (v : ℕ). timesIn f v i) g in
     ap₂ (λ (r : List ℕ) (x : ℕ). set r i x) e (ap₂ (λ (a b : ℕ). a * numbers + (b + 1)) g c) ∙ set-tabulate (numbered f) m i 0 h
+
+-- ---- marks of the values met
+
+-- a value without its mark is not among the first i of f
+abbrev pub Marked : (ℕ → ℕ) → ℕ → List ℕ → Type 0
+Marked f i l = (v : ℕ) → getD l (v % marks) 0 ≡ 0 → timesIn f v i ≡ 0
+
+pub marked-nil : (f : ℕ → ℕ) (l : List ℕ) → Marked f 0 l
+marked-nil f l v h = times-nil f v
+
+-- the next value has its mark then, and no other loses its own
+pub marked-step : (f : ℕ → ℕ) (i : ℕ) (l : List ℕ) (x : ℕ) → length l ≡ marks → x ≡ f i % marks → Marked f i l → Marked f (i + 1) (set l x 1)
+marked-step f i l x n e m v h =
+    ⊎-elim
+    (λ (q : v % marks ≡ x).
+    let b : x < length l = rw n (omega arith) in
+    let o : _≡_ {A = ℕ} 1 0 = sym (ap (λ (j : ℕ). getD (set l x 1) j 0) q ∙ getD-set-same l x 1 0 b) ∙ h in
+    absurd (omega arith))
+    (λ (q : v % marks ≡ x → ⊥).
+    times-passed f v i (λ (p : f i ≡ v). q (ap (λ (y : ℕ). y % marks) (sym p) ∙ sym e))
+    ∙ m v (sym (getD-set-other l x (v % marks) 1 0 q) ∙ h))
+    (eq-or-ne (v % marks) x)
+
+-- a gram without its mark is not among the features held
+pub marked-none : (f : ℕ → ℕ) (m i : ℕ) (items l : List ℕ) (gram : ℕ) → i < numbers → items ≡ tabulate (numbered f) i ++ replicate (m - i) 0
+    → Marked f i l → getD l (gram % marks) 0 ≡ 0 → timesIn (λ (j : ℕ). getD items j 0 / numbers) gram i ≡ 0
+marked-none f m i items l gram k e t h = times-ext (λ (j : ℕ). getD items j 0 / numbers) f gram i (grams-held f m i items k e) ∙ t gram h
 
 -- the set is whole when its places hold all features
 pub filled-whole : (s : List ℕ) (a : FeatureSet) (n : ℕ) → n ≡ length s + 2

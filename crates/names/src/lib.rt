@@ -1,12 +1,12 @@
 // What a name is, and its features. The rule: docs/RULE.md, "Names and features"; the definitions: specs/.
 ghost use mathlib.Core.Path.{_≡_};
 ghost use mathlib.Core.List.{[]};
-ghost use Prim.Native.Nat.{ℕ, _/_, _≤_, _<_};
+ghost use Prim.Native.Nat.{ℕ, _+_, _/_, _%_, _≤_, _<_};
 ghost use lib.ListN.{length, getD};
 ghost use Rattle.laws.specs.Lists.{member};
 ghost use Rattle.names.specs.Names.{judgeOf};
 ghost use Rattle.names.specs.Features.{padded, gramAt, timesIn, featuresOf, gramLength, characters};
-ghost use Rattle.names.specs.Set.{filled};
+ghost use Rattle.names.specs.Set.{filled, marks, Ends};
 
 // The most bytes that a name has.
 pub const LONGEST: usize = 64;
@@ -82,12 +82,12 @@ fn character_at(name: &[u8], k: usize) -> u64
     0
 }
 
-// The gram at place i.
-fn gram_at(name: &[u8], i: usize) -> u64
-    requires { ⌜ i < 66 ⌝ }
-    ensures { λ r. ⌜ (r ≡ gramAt gramLength characters (now (name .entry)) i) × (r < 16777216) ⌝ }
+// The gram at place i, from one whose last two characters are its first two.
+fn next_gram(name: &[u8], gram: u64, i: usize) -> u64
+    requires { ⌜ (i < 66) × Ends (now name) i gram ⌝ }
+    ensures { λ r. ⌜ (r ≡ gramAt gramLength characters (now (name .entry)) i) × (r < 16777216) × Ends (now (name .entry)) (i + 1) r ⌝ }
 {
-    character_at(name, i) * 65536 + character_at(name, i + 1) * 256 + character_at(name, i + 2)
+    gram % 65536 * 256 + character_at(name, i + 2)
 }
 
 // How many of the first k features are of the gram.
@@ -106,6 +106,24 @@ fn times_in(items: &[u64], gram: u64, k: usize) -> u64
     n
 }
 
+// The place of a gram's mark.
+fn mark_place(gram: u64) -> usize
+    ensures { λ r. ⌜ (r ≡ gram % marks) × (r < marks) ⌝ }
+{
+    (gram % 251) as usize
+}
+
+// As `times_in`, where a gram that is among the first k features has its mark: without one there is nothing to count.
+fn times_marked(items: &[u64], marked: &[u8], gram: u64, k: usize) -> u64
+    requires { ⌜ (k ≤ length (now items)) × (k ≤ 66) × (length (now marked) ≡ marks) × (getD (now marked) (gram % marks) 0 ≡ 0 → timesIn (λ (j : ℕ). getD (now items) j 0 / 256) gram k ≡ 0) ⌝ }
+    ensures { λ r. ⌜ (r ≡ timesIn (λ (j : ℕ). getD (now (items .entry)) j 0 / 256) gram k) × (r ≤ k) ⌝ }
+{
+    if marked[mark_place(gram)] == 0 {
+        return 0;
+    }
+    times_in(items, gram, k)
+}
+
 // The features of a name; the empty set where the name is refused.
 pub fn features(name: &[u8]) -> FeatureSet
     ensures { λ r. ⌜ r ≡ filled (featuresOf (now (name .entry))) ⌝ }
@@ -114,12 +132,15 @@ pub fn features(name: &[u8]) -> FeatureSet
     if judge(name) != 0 {
         return set;
     }
+    let mut marked = [0u8; 251];
     let size = name.len() + 2;
+    let mut gram: u64 = 0;
     let mut i = 0;
     while i < size {
-        let gram = gram_at(name, i);
-        let number = times_in(&set.items, gram, i) + 1;
+        gram = next_gram(name, gram, i);
+        let number = times_marked(&set.items, &marked, gram, i) + 1;
         set.items[i] = gram * 256 + number;
+        marked[mark_place(gram)] = 1;
         i += 1;
     }
     set.len = size;

@@ -1,6 +1,7 @@
 -- The words of an index put together from their parts, and what a build answers by its tests.
 -- Assumes nothing.
 use mathlib.Core.Path.{_≡_, refl, sym, ap, ap₂, _∙_}
+use mathlib.Core.Logic.{⊎-elim}
 use mathlib.Core.Bool.{Bool, true, false, cond}
 use mathlib.Core.List.{List, [], _∷_, _++_, map, append-nil}
 use Prim.Native.Nat.{ℕ, suc, _+_, _*_, _-_, _%_, _≤_, _<_}
@@ -8,8 +9,9 @@ use native.Mathlib.Omega.{arith}
 use borrow.Author.Tests.{eq-eqb, ne-eqb}
 use borrow.Rule.Slice.PartMut.{putMid}
 use lib.ListN.{length, take, drop, set, replicate, length-append, length-drop, length-map, drop-of-length-le}
-use lib.Seq.{drop-drop, take-append-seam, take-at, length-take-le}
+use lib.Seq.{drop-drop, take-all, take-append-seam, take-at, length-take-le}
 use Rattle.laws.specs.Sort.{sortOf}
+use Rattle.laws.proofs.Order.{le-or-lt}
 use Rattle.index.specs.Good.{mostNames, mostPostings}
 use Rattle.postings.specs.Built.{Entry, wordOf, idSpan, allTriples, listsOf, runsOf, rowWords, wordsFrom, rowsOf, wordsOf}
 use Rattle.postings.proofs.Runs.{lists-runs, length-runs}
@@ -87,10 +89,13 @@ pub record Held (es : List Entry) (names triples spare : List ℕ) (n p : ℕ) :
   pub spare-within : p ≤ length spare
 
 pub held : {es : List Entry} {names triples : List ℕ} {n p : ℕ} → Tables es names triples n p → (spare : List ℕ)
-    → length names ≡ mostNames → length triples ≡ mostPostings → length spare ≡ mostPostings → Held es names triples spare n p
-held {es} t spare a b c =
-    let n = t .count in
-    let p = t .sum in
+    → length names ≡ mostNames → length spare ≡ length triples → Held es names triples spare n p
+held {es} {names} {triples} {n} {p} t spare a b =
+    let c = t .count in
+    let s = t .sum in
+    let w : p ≤ length triples =
+    ⊎-elim (λ (h : p ≤ length triples). h) (λ (h : length triples < p). (let e = ap length (sym (take-all p triples (omega arith)) ∙ t .postings) in absurd (omega arith))) (le-or-lt p (length triples))
+    in
     let f = t .fit .few in
     let m = few-postings es (t .fit) in
     record { tables = t; few = omega arith; most = omega arith; names-within = omega arith; triples-within = omega arith; spare-within = omega arith }

@@ -7,12 +7,13 @@ use native.Mathlib.Numerals.{add-one}
 use native.Mathlib.Omega.{arith}
 use borrow.Author.Tests.{eq-eqb, ne-eqb}
 use lib.ListN.{length, getD, take, drop, set, length-append, length-drop, length-map, drop-of-length-le}
-use lib.Seq.{drop-drop, take-all, take-suc-set, take-paste, paste}
+use lib.Seq.{drop-drop, length-take-le, take-all, take-suc-set, take-paste, paste}
 use Rattle.names.specs.Names.{judgeOf}
 use Rattle.names.specs.Features.{featuresOf, mostFeatures}
-use Rattle.layouts.specs.Layouts.{readOf}
+use Rattle.names.proofs.Laws.{length-features, size-most}
+use Rattle.layouts.specs.Layouts.{headSize, readOf}
 use Rattle.layouts.proofs.Laws.{read-fits, read-roomy}
-use Rattle.layouts.proofs.Layouts.{field-below, read-good}
+use Rattle.layouts.proofs.Layouts.{field-below, length-name, read-good}
 use Rattle.frames.specs.Frames.{nameFrame}
 use Rattle.index.specs.Good.{mostNames, mostPostings, largestId}
 use Rattle.postings.specs.Built.{Entry, noEntry, EntryFit, Fit, wordOf, tripleOf, triplesOf, allTriples}
@@ -20,7 +21,7 @@ use Rattle.postings.proofs.Entries.{length-entries}
 use Rattle.postings.proofs.Built.{fit-nil, fit-snoc, name-fit, triples-append}
 use Rattle.register.specs.Lines.{linesOf, lineLength}
 use Rattle.register.specs.Build.{idIn, nameOf, nextFrom, nextId, judgeLine, entryOf, Taken, takeLines, takenOf, entriesOf}
-use Rattle.register.specs.Steps.{Tables, Read}
+use Rattle.register.specs.Steps.{Tables, Roomy, Read}
 use Rattle.register.proofs.Lines.{lines-nil, lines-step, line-some}
 use Rattle.register.proofs.Judging.{good-line}
 
@@ -78,6 +79,15 @@ entry-fit count next line z =
     let g = good-line count next line z in
     name-fit (nameOf line) (idIn line) (g .1) (read-fits nameFrame line (g .0) .bytes) (id-most count next line z)
 
+-- a good line has two bytes or more for each feature of its name
+pub features-half : (count next : ℕ) (line : List ℕ) → judgeLine count next line ≡ 0 → 2 * length (featuresOf (nameOf line)) ≤ length line
+unfolding headSize
+features-half count next line z =
+    let g = good-line count next line z in
+    let n = length-features (nameOf line) (g .1) in
+    let h = length-name nameFrame line (g .0) refl in
+    omega arith
+
 triples-one : (e : Entry) → allTriples (e ∷ []) ≡ triplesOf e
 unfolding allTriples
 triples-one e = append-nil (triplesOf e)
@@ -91,7 +101,7 @@ module _ (es : List Entry) (names triples : List ℕ) (n p : ℕ) (t : Tables es
       let d = t .sum in
       (g, omega arith)
 
-  pub tables-snoc : (names₁ triples₁ : List ℕ) (p₁ : ℕ) → n < length names → p + mostFeatures ≤ length triples
+  pub tables-snoc : (names₁ triples₁ : List ℕ) (p₁ : ℕ) → n < length names → p + length (featuresOf (nameOf line)) ≤ length triples
       → p₁ ≡ p + length (featuresOf (nameOf line))
       → names₁ ≡ set names n (idIn line * 256 + length (featuresOf (nameOf line)))
       → triples₁ ≡ paste triples p (map (λ (f : ℕ). tripleOf (length (featuresOf (nameOf line))) f (idIn line)) (featuresOf (nameOf line))) (length (featuresOf (nameOf line)))
@@ -130,6 +140,7 @@ pub record Reached (register names triples : List ℕ) (n p next at : ℕ) : Typ
   pub least : next ≡ nextId es
   pub rest : takeLines es (linesOf (drop at register)) ≡ takenOf register
   pub within : at ≤ length register
+  pub half : 2 * p ≤ at
 
 pub reached-nil : (register names triples : List ℕ) → Reached register names triples 0 0 0 0
 unfolding takenOf nextFrom allTriples
@@ -140,6 +151,7 @@ reached-nil register names triples =
       least = refl;
       rest = refl;
       within = omega arith;
+      half = omega arith;
     }
 
 pub reached-all : {register names triples : List ℕ} {n p next at : ℕ} → Reached register names triples n p next at → length register ≤ at → Read register names triples 0 0 n p
@@ -207,10 +219,27 @@ module _ {register names triples : List ℕ} {n p next at end number : ℕ} (t :
     pub turn-id : idIn (lineAt register at end) ≤ largestId
     turn-id = id-most n next (lineAt register at end) (sym (t .judged) ∙ z)
 
-    pub turn-room : (n < mostNames) × (p + mostFeatures ≤ mostPostings)
-    turn-room = tables-room (t .reach .es) names triples n p (t .reach .tables) (lineAt register at end) turn-good
+    -- the postings so far and those of the line are within half the bytes
+    pub turn-half : 2 * (p + length (featuresOf (nameOf (lineAt register at end)))) ≤ end
+    turn-half =
+        let h = t .reach .half in
+        let s = t .stretch in
+        let b = t .bound in
+        let d = length-drop at register in
+        let l = length-take-le (end - at) (drop at register) (omega arith) in
+        let f = features-half n next (lineAt register at end) (sym (t .judged) ∙ z) in
+        omega arith
 
-    pub turn-more : (names₁ triples₁ : List ℕ) (p₁ id₁ : ℕ) → n < length names → p + mostFeatures ≤ length triples
+    pub turn-room : (room : ℕ) → Roomy (length register) room → (n < mostNames) × (p + length (featuresOf (nameOf (lineAt register at end))) ≤ room)
+    turn-room room w =
+        let r = tables-room (t .reach .es) names triples n p (t .reach .tables) (lineAt register at end) turn-good in
+        let r1 = r .1 in
+        let m = size-most (nameOf (lineAt register at end)) in
+        let h = turn-half in
+        let b = t .bound in
+        (r .0, w (p + length (featuresOf (nameOf (lineAt register at end)))) (omega arith) (omega arith))
+
+    pub turn-more : (names₁ triples₁ : List ℕ) (p₁ id₁ : ℕ) → n < length names → p + length (featuresOf (nameOf (lineAt register at end))) ≤ length triples
         → id₁ ≡ idIn (lineAt register at end)
         → p₁ ≡ p + length (featuresOf (nameOf (lineAt register at end)))
         → names₁ ≡ set names n (idIn (lineAt register at end) * 256 + length (featuresOf (nameOf (lineAt register at end))))
@@ -227,4 +256,5 @@ module _ {register names triples : List ℕ} {n p next at end number : ℕ} (t :
           least = ap (λ (x : ℕ). x + 1) ei ∙ sym (next-snoc 0 (r .es) (entryOf line));
           rest = sym (take-good (r .es) line (linesOf (drop end register)) (sym turn-judged ∙ z)) ∙ ap (takeLines (r .es)) (sym (lines-at register at end (t .more) (t .stretch))) ∙ r .rest;
           within = t .bound;
+          half = (let h = turn-half in omega arith);
         }

@@ -7,6 +7,7 @@ use Prim.Native.Nat.{ℕ, zero, suc, _*_, _/_, _≤_}
 use lib.ListN.{length, getD, take, replicate}
 use lib.Dec.{eqb, leb}
 use Rattle.words.specs.Words.{rowWidth}
+use Rattle.index.specs.Good.{mostPostings}
 use Rattle.postings.specs.Built.{Entry, Row, Fit, wordOf, idSpan, allTriples, runsOf, rowWords, wordsFrom}
 use Rattle.register.specs.Build.{judgeLine, idIn, nameOf, takenOf, entriesOf, blank, padTo}
 
@@ -20,6 +21,10 @@ pub record Heard (count next : ℕ) (line buffer : List ℕ) (r i k : ℕ) : Typ
   pub short : r ≡ 0 → k ≤ length buffer
 
 -- ---- all lines
+
+-- a table with room for the postings of a register of so many bytes, which are at most half as many: a name of n bytes has n + 2, and its line 2n + 9 bytes
+abbrev pub Roomy : ℕ → ℕ → Type 0
+Roomy bytes room = (p : ℕ) → 2 * p ≤ bytes → p ≤ mostPostings → p ≤ room
 
 -- the tables hold the names: their words and their postings
 pub record Tables (es : List Entry) (names triples : List ℕ) (n p : ℕ) : Type 0 where

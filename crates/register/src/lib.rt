@@ -12,7 +12,7 @@ ghost use Rattle.index.specs.Good.{mostNames, mostPostings, largestId};
 ghost use Rattle.postings.specs.Built.{idSpan, tripleOf, runsOf, rowWords, wordsFrom};
 ghost use Rattle.register.specs.Lines.{lineLength};
 ghost use Rattle.register.specs.Build.{blank, builtOf, wordsAfter};
-ghost use Rattle.register.specs.Steps.{Heard, Read, begins, RowsAt, Finished};
+ghost use Rattle.register.specs.Steps.{Heard, Roomy, Read, begins, RowsAt, Finished};
 
 // What a build answers: its number, and the place of the first bad line, from 1, or 0.
 pub struct Built {
@@ -98,7 +98,7 @@ fn add_name(
     triples: &mut [u64],
     p: usize,
 ) -> usize
-    requires { ⌜ (judgeOf (now name) ≡ 0) × (id ≤ largestId) × (n < length (now names)) × (p + mostFeatures ≤ length (now triples)) ⌝ }
+    requires { ⌜ (judgeOf (now name) ≡ 0) × (id ≤ largestId) × (n < length (now names)) × (p + length (featuresOf (now name)) ≤ length (now triples)) ⌝ }
     ensures { λ r. ⌜ (r ≡ p + length (featuresOf (now (name .entry)))) × (now (names .exit) ≡ set (now (names .entry)) n (id * 256 + length (featuresOf (now (name .entry))))) × (now (triples .exit) ≡ paste (now (triples .entry)) p (map (λ (f : ℕ). tripleOf (length (featuresOf (now (name .entry)))) f id) (featuresOf (now (name .entry)))) (length (featuresOf (now (name .entry))))) ⌝ }
 {
     let set = names::features(name);
@@ -120,7 +120,7 @@ struct Taken {
 
 // Reads the lines until one is bad, and puts the words and the postings of their names into the tables.
 fn take_lines(register: &[u8], name: &mut [u8], names: &mut [u32], triples: &mut [u64]) -> Taken
-    requires { ⌜ (length (now name) ≡ 255) × (length (now names) ≡ mostNames) × (length (now triples) ≡ mostPostings) ⌝ }
+    requires { ⌜ (length (now name) ≡ 255) × (length (now names) ≡ mostNames) × Roomy (length (now register)) (length (now triples)) ⌝ }
     ensures { λ r. ⌜ Read (now (register .entry)) (now (names .exit)) (now (triples .exit)) (r .number) (r .line) (r .names) (r .postings) ⌝ }
 {
     let mut n = 0;
@@ -314,7 +314,7 @@ fn build_with(
     spare: &mut [u64],
     words: &mut [u32],
 ) -> Built
-    requires { ⌜ (length (now name) ≡ 255) × (length (now names) ≡ mostNames) × (length (now triples) ≡ mostPostings) × (length (now spare) ≡ mostPostings) ⌝ }
+    requires { ⌜ (length (now name) ≡ 255) × (length (now names) ≡ mostNames) × Roomy (length (now register)) (length (now triples)) × (length (now spare) ≡ length (now triples)) ⌝ }
     ensures { λ r. ⌜ (r ≡ builtOf (now (register .entry)) (length (now (words .entry)))) × (now (words .exit) ≡ wordsAfter (now (register .entry)) (now (words .entry))) ⌝ }
 {
     let taken = take_lines(register, name, names, triples);
@@ -335,8 +335,46 @@ fn build_with(
     Built { number: 8, line: 0 }
 }
 
-// Builds the index of a register.
-pub fn build(register: &[u8], words: &mut [u32]) -> Built
+// Builds the index of a short register: small tables do, and are soon set to 0.
+fn build_small(register: &[u8], words: &mut [u32]) -> Built
+    requires { ⌜ length (now register) ≤ 1024 ⌝ }
+    ensures { λ r. ⌜ (r ≡ builtOf (now (register .entry)) (length (now (words .entry)))) × (now (words .exit) ≡ wordsAfter (now (register .entry)) (now (words .entry))) ⌝ }
+{
+    let mut name = [0u8; 255];
+    let mut names = [0u32; 256];
+    let mut triples = [0u64; 512];
+    let mut spare = [0u64; 512];
+    build_with(
+        register,
+        &mut name,
+        &mut names,
+        &mut triples,
+        &mut spare,
+        words,
+    )
+}
+
+// The same for one that is not so short.
+fn build_middle(register: &[u8], words: &mut [u32]) -> Built
+    requires { ⌜ length (now register) ≤ 4096 ⌝ }
+    ensures { λ r. ⌜ (r ≡ builtOf (now (register .entry)) (length (now (words .entry)))) × (now (words .exit) ≡ wordsAfter (now (register .entry)) (now (words .entry))) ⌝ }
+{
+    let mut name = [0u8; 255];
+    let mut names = [0u32; 256];
+    let mut triples = [0u64; 2048];
+    let mut spare = [0u64; 2048];
+    build_with(
+        register,
+        &mut name,
+        &mut names,
+        &mut triples,
+        &mut spare,
+        words,
+    )
+}
+
+// Builds the index of a register of any length.
+fn build_large(register: &[u8], words: &mut [u32]) -> Built
     ensures { λ r. ⌜ (r ≡ builtOf (now (register .entry)) (length (now (words .entry)))) × (now (words .exit) ≡ wordsAfter (now (register .entry)) (now (words .entry))) ⌝ }
 {
     let mut name = [0u8; 255];
@@ -351,4 +389,17 @@ pub fn build(register: &[u8], words: &mut [u32]) -> Built
         &mut spare,
         words,
     )
+}
+
+// Builds the index of a register.
+pub fn build(register: &[u8], words: &mut [u32]) -> Built
+    ensures { λ r. ⌜ (r ≡ builtOf (now (register .entry)) (length (now (words .entry)))) × (now (words .exit) ≡ wordsAfter (now (register .entry)) (now (words .entry))) ⌝ }
+{
+    if register.len() <= 1024 {
+        return build_small(register, words);
+    }
+    if register.len() <= 4096 {
+        return build_middle(register, words);
+    }
+    build_large(register, words)
 }

@@ -1,6 +1,6 @@
 -- `take_lines` meets its contract: at each place, the tables hold the names of the lines before it, and the lines from there on come to what all lines come to.
 -- A turn of the loop is a `Turn` of Taking.antt, and what follows from a turn is proved there.
-use mathlib.Core.Path.{_≡_, sym, ap, ap₂, _∙_}
+use mathlib.Core.Path.{_≡_, refl, sym, ap, ap₂, _∙_}
 use mathlib.Core.List.{List, map}
 use Prim.Native.Nat.{ℕ, _+_, _*_, _≤_, _-_}
 use native.Mathlib.Omega.{arith}
@@ -9,7 +9,7 @@ use lib.ListN.{length, set}
 use lib.Seq.{length-take-le, paste}
 use Rattle.names.specs.Names.{judgeOf}
 use Rattle.names.specs.Features.{featuresOf}
-use Rattle.index.specs.Good.{mostNames, mostPostings}
+use Rattle.index.specs.Good.{mostNames}
 use Rattle.postings.specs.Built.{tripleOf}
 use Rattle.register.proofs.Lines.{line-ends}
 use Rattle.register.proofs.Taking.{Reached, Turn, reached-nil, reached-all, turn-less, turn-few, turn-bad, turn-name, turn-id, turn-room, turn-more}
@@ -18,7 +18,7 @@ use Rattle.register.proofs.take_lines.Tie as tie
 
 abbrev Inv-loop : tie.InvT-loop
 Inv-loop register name₀ names₀ triples₀ n₀ p₀ next₀ at₀ name names triples n p next at =
-    (length name ≡ 255) × (length names ≡ mostNames) × (length triples ≡ mostPostings) × Reached register names triples n p next at
+    (length name ≡ 255) × (length names ≡ mostNames) × (length triples ≡ length triples₀) × Reached register names triples n p next at
 
 abbrev μ-loop : tie.MeasureT-loop
 μ-loop register name₀ names₀ triples₀ n₀ p₀ next₀ at₀ name names triples n p next at = length register - at
@@ -32,7 +32,7 @@ turn c =
     record { reach = l .inv .3; more = omega arith; stretch = e .0; bound = e .1; judged = c .judge-line .ensures .number }
 
 loop-holds : tie.Need-loop-holds Inv-loop μ-loop
-loop-holds c = let b = c .before .before .before .before in (b .pre .0, b .pre .1, b .pre .2, reached-nil (b .args .register .now) (b .args .names .now) (b .args .triples .now))
+loop-holds c = let b = c .before .before .before .before in (b .pre .0, b .pre .1, refl, reached-nil (b .args .register .now) (b .args .names .now) (b .args .triples .now))
 
 line-end-requires : tie.Need-line-end-requires Inv-loop μ-loop
 line-end-requires c κs = search needs
@@ -67,7 +67,7 @@ same-length-2 : tie.Need-same-length-2 Inv-loop μ-loop
 same-length-2 c = c .before .before .before .before .before .before .before .before .before .loop .inv .1 ∙ sym (c .before .before .before .before .before .before .before .before .before .before .before .before .before .before .pre .1)
 
 same-length-3 : tie.Need-same-length-3 Inv-loop μ-loop
-same-length-3 c = c .before .before .before .before .before .before .before .before .before .loop .inv .2 ∙ sym (c .before .before .before .before .before .before .before .before .before .before .before .before .before .before .pre .2)
+same-length-3 c = c .before .before .before .before .before .before .before .before .before .loop .inv .2
 
 returns : tie.Need-returns Inv-loop μ-loop
 returns c = let l = c .before .before .before .before .before .before .before .before .before .loop in turn-bad (turn (c .before .before .before .before)) (c .if1 .taken) (l .names) (l .triples)
@@ -84,13 +84,15 @@ add-name-requires c κs =
     let h = c .before .before .before .before .before .before .before .judge-line .ensures in
     let t = turn (c .before .before .before .before .before .before .before) in
     let z = c .before .before .before .if1 .left in
-    let room = turn-room t z in
+    let b = c .before .before .before .before .before .before .before .before .before .before .before .before .before .before .before .before .before in
+    let room = turn-room t z (length (b .args .triples .now)) (b .pre .2) in
     let small = room .0 in
     let wide = room .1 in
     let i = h .id z in
     let most = turn-id t z in
     let ln = l .inv .1 in
     let lt = l .inv .2 in
+    let name = ap (λ (s : List ℕ). length (featuresOf s)) (h .name z) in
     (ap judgeOf (h .name z) ∙ turn-name t z, omega arith, omega arith, omega arith)
 
 add-n : tie.Need-add-n Inv-loop μ-loop
@@ -113,7 +115,8 @@ loop-again c =
     let x = c .before .before .before .before .add-name in
     let t = turn (c .before .before .before .before .before .before .before .before .before .before .before .before) in
     let z = c .before .before .before .before .before .before .before .before .if1 .left in
-    let room = turn-room t z in
+    let b = c .before .before .before .before .before .before .before .before .before .before .before .before .before .before .before .before .before .before .before .before .before .before in
+    let room = turn-room t z (length (b .args .triples .now)) (b .pre .2) in
     let small = room .0 in
     let wide = room .1 in
     let ln = l .inv .1 in
@@ -136,7 +139,7 @@ same-length-5 : tie.Need-same-length-5 Inv-loop μ-loop
 same-length-5 c = c .before .loop .inv .1 ∙ sym (c .before .before .before .before .before .before .pre .1)
 
 same-length-6 : tie.Need-same-length-6 Inv-loop μ-loop
-same-length-6 c = c .before .loop .inv .2 ∙ sym (c .before .before .before .before .before .before .pre .2)
+same-length-6 c = c .before .loop .inv .2
 
 returns-2 : tie.Need-returns-2 Inv-loop μ-loop
 returns-2 c = reached-all (c .before .loop .inv .3) (omega arith)
