@@ -2,7 +2,7 @@
 ghost use mathlib.Core.Path.{_≡_};
 ghost use Prim.Native.Nat.{_+_, _*_, _^_, _≤_, _<_};
 ghost use lib.ListN.{length, getD};
-ghost use Rattle.words.specs.Words.{nameCount, rowCount, postingCount, namesStart, nameId, nameSize, rowWidth, rowStart, rowSize, rowFeature, rowPlace, rowLength, rowKey, postingsStart, posting};
+ghost use Rattle.words.specs.Words.{nameCount, rowCount, postingCount, namesStart, nameId, nameSize, rowWidth, rowStart, rowSize, rowFeature, rowPlace, rowLength, rowKey};
 
 fn wide(x: u32) -> usize
     ensures { λ r. ⌜ (r ≡ x) × (r < 4294967296) ⌝ }
@@ -104,12 +104,4 @@ pub fn row_key(words: &[u32], r: usize) -> u64
     ensures { λ v. ⌜ v ≡ rowKey (now (words .entry)) r ⌝ }
 {
     row_size(words, r) as u64 * 4294967296 + row_feature(words, r)
-}
-
-// Posting k of all.
-pub fn posting(words: &[u32], k: usize) -> u32
-    requires { ⌜ (namesStart ≤ length (now words)) × (postingsStart (now words) + k < length (now words)) ⌝ }
-    ensures { λ v. ⌜ v ≡ posting (now (words .entry)) k ⌝ }
-{
-    words[row_start(words, row_count(words)) + k]
 }
