@@ -141,6 +141,9 @@ fn good(words: &[u32]) -> bool {
         guesses[(name >> 8) as usize % 4096] = at as u8;
     }
     for row in index.rows {
+        if row[0] > 255 {
+            return false;
+        }
         let list = &postings[row[2] as usize..(row[2] + row[3]) as usize];
         let mut least = 0;
         for id in list {
@@ -148,13 +151,13 @@ fn good(words: &[u32]) -> bool {
                 return false;
             }
             least = id + 1;
-            let guess = guesses[*id as usize % 4096] as usize;
-            let at = match index.names.get(guess) {
-                Some(name) if name >> 8 == *id => guess,
-                _ => index.names.partition_point(|name| *name < id << 8),
-            };
-            if index.names.get(at) != Some(&(id << 8 | row[0])) || row[0] > 255 {
-                return false;
+            let word = id << 8 | row[0];
+            let mut at = guesses[*id as usize % 4096] as usize;
+            if index.names.get(at) != Some(&word) {
+                at = index.names.partition_point(|name| *name < word);
+                if index.names.get(at) != Some(&word) {
+                    return false;
+                }
             }
             tally[at] += 1;
         }
