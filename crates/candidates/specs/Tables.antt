@@ -114,8 +114,10 @@ pub record Narrowed (ns : List ℕ) (ls : List (List ℕ)) (t budget : ℕ) (cou
   pub table : past ≡ false → counts ≡ remainTable ns ls t (laterCount ls t)
   pub candidates : past ≡ false → MetBy counts met m
 
--- after both: past exactly when the touches of both exceed the budget; otherwise the answers hold the counts of those left at their places
+-- after both: past exactly when the touches of both exceed the budget, and then no touch is reported and no answer is changed; otherwise the
+-- answers hold the counts of those left at their places
 pub record Walked (ns : List ℕ) (ls : List (List ℕ)) (t budget : ℕ) (before after : List ℕ) (past : Bool) (touches : ℕ) : Type 0 where
   pub over : past ≡ ltb budget (postingsOf ls (signatures (length ls) t) + laterTouches ns ls t (laterCount ls t))
   pub cost : past ≡ false → touches ≡ postingsOf ls (signatures (length ls) t) + laterTouches ns ls t (laterCount ls t)
   pub answers : past ≡ false → after ≡ kept (remainTable ns ls t (laterCount ls t)) before
+  pub none : past ≡ true → (touches ≡ 0) × (after ≡ before)

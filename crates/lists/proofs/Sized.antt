@@ -1,5 +1,5 @@
 -- The rows of a size stand together, and a search of them alone finds the row of a feature.
--- Cited by the proofs of `rows_of_size` and `place_among`.
+-- Cited by the proofs of `rows_under`, `rows_of_size` and `place_among`.
 -- Assumes nothing.
 use mathlib.Core.Path.{_≡_, refl, sym, ap, ap₂, _∙_}
 use mathlib.Core.Logic.{⊎-elim, inl, inr}
@@ -8,27 +8,25 @@ use mathlib.Core.List.{List}
 use Prim.Native.Nat.{ℕ, _+_, _-_, _*_, _/_, _≤_, _<_}
 use native.Mathlib.Nat.{eq-or-lt-of-le}
 use native.Mathlib.Omega.{arith}
-use lib.ListN.{length, getD, take, drop, length-drop}
+use lib.ListN.{length, getD, drop, length-drop}
 use lib.Seq.{length-take-le, getD-take, getD-drop}
 use lib.Dec.{ltb, eqb}
-use borrow.Author.Tests.{lt-ltb, le-ltb, ltb-true, ltb-false, eqb-true}
+use borrow.Author.Tests.{lt-ltb, ltb-true, ltb-false, eqb-true}
 use Rattle.laws.specs.Lists.{member, Ascending, countOf}
-use Rattle.laws.specs.Below.{countBelow}
 use Rattle.laws.proofs.Ascending.{ascending-of, member-getD, member-nowhere}
-use Rattle.laws.proofs.Below.{sum-below-ext, count-below-most, count-below-mono}
-use Rattle.laws.proofs.Halving.{Falling, Stretch, falling-count, count-below-place}
+use Rattle.laws.proofs.Below.{count-below-most, count-below-mono}
+use Rattle.laws.proofs.Halving.{Falling, Stretch, falling-count}
 use Rattle.laws.proofs.Order.{le-or-lt}
 use Rattle.halving.specs.Rows.{seconds}
 use Rattle.halving.proofs.Search.{place-holds, place-past, length-seconds, second-at}
 use Rattle.words.specs.Words.{rowCount, rowSize, rowFeature, rowStart, keyOf, rowKey}
-use Rattle.words.proofs.Laws.{feature-word, size-word}
 use Rattle.index.specs.Good.{Good}
 use Rattle.index.proofs.Facts.{Before, good-facts}
 use Rattle.index.proofs.Laws.{good-within}
 use Rattle.lists.specs.Part.{cut, none}
 use Rattle.lists.specs.Lists.{spanAt, spanIn}
 use Rattle.lists.specs.Sizes.{rowsUnder, sizeSpan}
-use Rattle.lists.proofs.Rows.{keyBelow, key-falls, key-parts, span-met, missing}
+use Rattle.lists.proofs.Rows.{key-parts, span-met, missing}
 
 pub under-most : (w : List ℕ) (y : ℕ) → rowsUnder w y ≤ rowCount w
 unfolding rowsUnder

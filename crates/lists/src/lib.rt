@@ -4,86 +4,19 @@ ghost use mathlib.Core.Bool.{cond};
 ghost use Prim.Native.Nat.{ℕ, _+_, _-_, _*_, _^_, _≤_, _<_};
 ghost use lib.ListN.{length, getD};
 ghost use lib.Dec.{ltb, eqb};
-ghost use Rattle.laws.specs.Below.{countBelow};
-ghost use Rattle.words.specs.Words.{rowCount, rowKey, postingsStart};
+ghost use Rattle.words.specs.Words.{postingsStart};
 ghost use Rattle.index.specs.Good.{Good};
 ghost use Rattle.lists.specs.Part.{cut, Part};
 ghost use Rattle.lists.specs.Lists.{spanIn, spanFor};
 ghost use Rattle.lists.specs.Sizes.{rowsUnder, sizeSpan};
 
-// The first row from `from` on, of those before `to`, whose size and feature as one number is not below the key; `to` where all are.
-pub fn rows_below(words: &[u32], from: usize, to: usize, key: u64) -> usize
-    requires { ⌜ Good (now words) × (from ≤ to) × (to ≤ rowCount (now words)) ⌝ }
-    ensures { λ r. ⌜ r ≡ from + countBelow (to - from) (λ (i : ℕ). ltb (rowKey (now (words .entry)) (from + i)) key) ⌝ }
-{
-    let n = to - from;
-    let mut k = halving::highest(n + 1);
-    let rest = n + 1 - halving::power(k);
-    let mut base: usize = 0;
-    if 0 < rest {
-        if words::row_key(words, from + (rest - 1)) < key {
-            base = rest;
-        }
-    }
-    while 0 < k {
-        k -= 1;
-        let at = base + halving::power(k) - 1;
-        base += halving::power_if(words::row_key(words, from + at) < key, k);
-    }
-    from + base
-}
+// ---- the rows of one size
 
 // Where a list lies among the words.
 pub struct Place {
     pub start: usize,
     pub count: usize,
 }
-
-// Where the list of a size and a feature of a good index lies; no words at 0 where there is no such row.
-pub fn place_for_good(words: &[u32], size: u32, feature: u64) -> Place
-    requires { ⌜ Good (now words) ⌝ }
-    ensures { λ p. ⌜ (p .start ≡ spanIn (now (words .entry)) size feature .start) × (p .count ≡ spanIn (now (words .entry)) size feature .count) ⌝ }
-{
-    if 4294967295 < feature {
-        return Place { start: 0, count: 0 };
-    }
-    let rows = words::row_count(words);
-    let key = size as u64 * 4294967296 + feature;
-    let r = rows_below(words, 0, rows, key);
-    if r < rows {
-        if words::row_key(words, r) == key {
-            let start = words::row_start(words, rows) + words::row_place(words, r);
-            return Place {
-                start,
-                count: words::row_length(words, r),
-            };
-        }
-    }
-    Place { start: 0, count: 0 }
-}
-
-// The list of a size and a feature of a good index, as that part of the words; the empty part where there is no such row.
-pub fn list_for_good(words: &[u32], size: u32, feature: u64) -> &[u32]
-    requires { ⌜ Good (now words) ⌝ }
-    ensures { λ l. ⌜ Part (words .entry) l (spanIn (now (words .entry)) size feature) ⌝ }
-{
-    let place = place_for_good(words, size, feature);
-    let start = place.start;
-    let end = start + place.count;
-    &words[start..end]
-}
-
-// The same of any words: the empty part too where the index isn't good.
-pub fn list_for(words: &[u32], size: u32, feature: u64) -> &[u32]
-    ensures { λ l. ⌜ Part (words .entry) l (spanFor (now (words .entry)) size feature) ⌝ }
-{
-    if index::good(words) {
-        return list_for_good(words, size, feature);
-    }
-    &words[0..0]
-}
-
-// ---- the lists of one size
 
 // How many rows have a size below: where the rows of the size begin.
 fn rows_under(words: &[u32], size: u64) -> usize
@@ -133,7 +66,8 @@ fn place_if(rows: &[u32], row: usize, first: usize, feature: u64) -> Place
     }
 }
 
-// What place_for_good finds, sought among the rows of the size alone; `first` is where the postings start.
+// Where the list of a size and a feature of a good index lies, sought among the rows of the size; no words at 0 where there is no such row.
+// `first` is where the postings start.
 pub fn place_among(words: &[u32], rows: &[u32], first: usize, size: u32, feature: u64) -> Place
     requires { ⌜ Good (now words) × (now rows ≡ cut (sizeSpan (now words) size) (now words)) × (first ≡ postingsStart (now words)) ⌝ }
     ensures { λ p. ⌜ (p .start ≡ spanIn (now (words .entry)) size feature .start) × (p .count ≡ spanIn (now (words .entry)) size feature .count) ⌝ }
@@ -148,4 +82,37 @@ pub fn place_among(words: &[u32], rows: &[u32], first: usize, size: u32, feature
     let at = halving::place_in_rows(rows, feature as u32);
     let row = at - halving::one_if(at == n);
     place_if(rows, row, first, feature)
+}
+
+// ---- one list
+
+// The same, with the rows of the size sought first.
+pub fn place_for_good(words: &[u32], size: u32, feature: u64) -> Place
+    requires { ⌜ Good (now words) ⌝ }
+    ensures { λ p. ⌜ (p .start ≡ spanIn (now (words .entry)) size feature .start) × (p .count ≡ spanIn (now (words .entry)) size feature .count) ⌝ }
+{
+    let rows = rows_of_size(words, size);
+    let first = words::row_start(words, words::row_count(words));
+    place_among(words, rows, first, size, feature)
+}
+
+// The list of a size and a feature of a good index, as that part of the words; the empty part where there is no such row.
+pub fn list_for_good(words: &[u32], size: u32, feature: u64) -> &[u32]
+    requires { ⌜ Good (now words) ⌝ }
+    ensures { λ l. ⌜ Part (words .entry) l (spanIn (now (words .entry)) size feature) ⌝ }
+{
+    let place = place_for_good(words, size, feature);
+    let start = place.start;
+    let end = start + place.count;
+    &words[start..end]
+}
+
+// The same of any words: the empty part too where the index isn't good.
+pub fn list_for(words: &[u32], size: u32, feature: u64) -> &[u32]
+    ensures { λ l. ⌜ Part (words .entry) l (spanFor (now (words .entry)) size feature) ⌝ }
+{
+    if index::good(words) {
+        return list_for_good(words, size, feature);
+    }
+    &words[0..0]
 }

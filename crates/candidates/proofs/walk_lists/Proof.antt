@@ -48,6 +48,7 @@ returns c =
       over = sym (lt-ltb (b .args .budget) (p + l) (omega arith));
       cost = λ q. absurd (true≢false q);
       answers = λ q. absurd (true≢false q);
+      none = λ q. (refl, refl);
     }
 
 sub-narrow : tie.Need-sub-narrow
@@ -116,6 +117,7 @@ returns-2 c =
       over = sym (lt-ltb (b .args .budget) (p + l) (omega arith));
       cost = λ q. absurd (true≢false q);
       answers = λ q. absurd (true≢false q);
+      none = λ q. (refl, refl);
     }
 
 slice-aggregate-keep : tie.Need-slice-aggregate-keep
@@ -185,6 +187,7 @@ returns-3 c =
       over = sym (le-ltb (b .args .budget) (p + l) (omega arith));
       cost = λ q. (let z : g .result .touches + c .before .before .before .before .before .before .before .before .before .before .narrow .result .touches ≡ p + l = omega arith in z);
       answers = λ q. c .before .before .before .keep .ensures ∙ ap (λ (v : List ℕ). kept v (b .args .answers .now)) (w .table nop2);
+      none = λ q. absurd (true≢false (sym q));
     }
 
 pub walk-lists-spec : {M : Type 1} → statement M
