@@ -227,6 +227,9 @@ fn tally_query(tally: &mut Tally, line: &[u8], names: &[second::build::Registere
     let mut rows = [empty; 256];
     let answer = second::search::search(words, &query, &mut rows);
     tally.count(format!("query {}", answer.number));
+    if answer.rows == 256 {
+        tally.count("256 rows");
+    }
     let whole = second::search::Query { allowance: u32::MAX, ..query.clone() };
     let whole = second::search::search(words, &whole, &mut rows);
     if whole.number != 0 {
@@ -267,7 +270,7 @@ fn tally_query(tally: &mut Tally, line: &[u8], names: &[second::build::Registere
     }
 }
 
-const NEEDED: [&str; 44] = [
+const NEEDED: [&str; 45] = [
     "65535 bytes",
     "65536 bytes",
     "65537 bytes",
@@ -310,6 +313,7 @@ const NEEDED: [&str; 44] = [
     "on the threshold, measure 3",
     "on the threshold, measure 4",
     "a row at least count 1",
+    "256 rows",
     "equal names listed",
     "rows whose order is not that of the sizes",
 ];

@@ -3,3 +3,4 @@ pub mod Text
 pub mod Asking
 pub mod Responding
 pub mod Reading
+pub mod Pieces

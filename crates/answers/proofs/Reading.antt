@@ -30,7 +30,7 @@ use Rattle.search.specs.Answers.{numberIn, rowsIn, idColumn, sharedColumn, size
 use Rattle.search.specs.declared.Answer.{Answer}
 use Rattle.search.specs.declared.Answer.the-variants.{Found, Refused}
 use Rattle.search.proofs.Found.{refused-empty, Answered, answered}
-use Rattle.answers.specs.Output.{rowLine, endLine, refusalLine, rowsText, foundText, answerText, rowsLent, queryIn, measureIn, pIn, qIn, allowanceIn, searchFor, placesFor, answerOf}
+use Rattle.answers.specs.Output.{rowLine, endLine, refusalLine, rowsText, foundText, answerText, rowsLent, longestAnswer, queryIn, measureIn, pIn, qIn, allowanceIn, searchFor, placesFor, answerOf}
 use Rattle.answers.specs.Rows.{Shown}
 use Rattle.answers.proofs.Text.{length-found}
 
@@ -134,16 +134,16 @@ reads-refusal number touches h k = read-write-refusal number touches h k
 
 -- ---- how long an answer is at most
 
-refusal-length : (number touches : ℕ) → length (refusalLine number touches) ≡ 13
+pub refusal-length : (number touches : ℕ) → length (refusalLine number touches) ≡ 13
 unfolding lineOf hexLine hexOf fieldBytes nameBytes bytesFor
 refusal-length number touches = refl
 
-text-most : (r : Answer) (ids shared sizes : List ℕ) → rowsIn r ≤ rowsLent → length (answerText r ids shared sizes) ≤ 2839
+text-most : (r : Answer) (ids shared sizes : List ℕ) → rowsIn r ≤ rowsLent → length (answerText r ids shared sizes) ≤ longestAnswer
 unfolding answerText
 text-most (Found rows touches p q) ids shared sizes h = let n = length-found rows touches p q ids shared sizes in omega arith
 text-most (Refused number touches) ids shared sizes h = let n = refusal-length number touches in omega arith
 
-pub answer-most : (w line : List ℕ) → length (answerOf w line) ≤ 2839
+pub answer-most : (w line : List ℕ) → length (answerOf w line) ≤ longestAnswer
 unfolding answerOf
 answer-most w line = by-frame (isFrame queryFrame line)
   where
@@ -158,6 +158,6 @@ answer-most w line = by-frame (isFrame queryFrame line)
         (λ (n : numberIn (searchFor w line) ≡ 0 → ⊥). let e = refused-empty (searchFor w line) n .0 in omega arith)
         (eq-or-ne (numberIn (searchFor w line)) 0)
 
-    by-frame : (b : Bool) → length (cond b (answerText (searchFor w line) (idColumn w (placesFor w line)) (sharedColumn w (featuresOf (queryIn line)) (placesFor w line)) (sizeColumn w (placesFor w line))) (refusalLine 11 0)) ≤ 2839
+    by-frame : (b : Bool) → length (cond b (answerText (searchFor w line) (idColumn w (placesFor w line)) (sharedColumn w (featuresOf (queryIn line)) (placesFor w line)) (sizeColumn w (placesFor w line))) (refusalLine 11 0)) ≤ longestAnswer
     by-frame true = text-most (searchFor w line) (idColumn w (placesFor w line)) (sharedColumn w (featuresOf (queryIn line)) (placesFor w line)) (sizeColumn w (placesFor w line)) few
     by-frame false = let n = refusal-length 11 0 in omega arith

@@ -2,7 +2,7 @@
 -- Assumes nothing.
 use mathlib.Core.Bool.{Bool, cond, _&&_}
 use mathlib.Core.List.{List, [], _∷_, _++_}
-use Prim.Native.Nat.{ℕ, zero, suc, _+_}
+use Prim.Native.Nat.{ℕ, zero, suc, _+_, _*_}
 use lib.ListN.{length, getD, take, drop, replicate}
 use lib.Dec.{eqb, leb, ltb}
 use Rattle.names.specs.Features.{featuresOf}
@@ -89,6 +89,10 @@ answerText (Refused number touches) ids shared sizes = refusalLine number touche
 -- how many rows the program lends
 abbrev pub rowsLent : ℕ
 rowsLent = 256
+
+-- how many bytes the longest answer has: a line for each row that is lent, and the end
+abbrev pub longestAnswer : ℕ
+longestAnswer = 11 * rowsLent + 23
 
 -- the query of a 51 line, and its fields
 abbrev pub queryIn : List ℕ → List ℕ

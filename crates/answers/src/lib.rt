@@ -14,6 +14,16 @@ ghost use Rattle.answers.specs.Rows.{Shown};
 use layouts::Written;
 use search::Answer;
 
+// The most bytes of an input, the words of the program's index, the rows that it lends to a search, and the bytes of its longest answer: a line for
+// each of those rows and the end.
+pub const MOST_INPUT: usize = 65536;
+
+pub const INDEX_WORDS: usize = 16384;
+
+pub const ROWS_LENT: usize = 256;
+
+pub const LONGEST_ANSWER: usize = 2839;
+
 // ---- opening: an input to its index
 
 // What opening answers: a number, the first bad line of the register, from 1, or 0, and where the queries begin.
@@ -56,7 +66,7 @@ pub fn open(input: &[u8], words: &mut [u32]) -> Opened
     ensures { λ r. ⌜ r ≡ openedOf (now (input .entry)) (length (now (words .entry))) ⌝ }
     ensures { λ _. ⌜ now (words .exit) ≡ openWords (now (input .entry)) (now (words .entry)) ⌝ }
 {
-    if 65536 < input.len() {
+    if MOST_INPUT < input.len() {
         register::fill(words);
         return Opened {
             number: 8,
@@ -206,9 +216,9 @@ pub fn answer_good(line: &[u8], words: &[u32], out: &mut [u8]) -> Written
     ensures { λ r. ⌜ (r ≡ fittingOf (answerOf (now (words .entry)) (now (line .entry))) (length (now (out .entry)))) × (now (out .exit) ≡ fittedOf (answerOf (now (words .entry)) (now (line .entry))) (now (out .entry))) ⌝ }
 {
     let mut query = [0u8; 255];
-    let mut ids = [0u32; 256];
-    let mut shared = [0u32; 256];
-    let mut sizes = [0u32; 256];
+    let mut ids = [0u32; ROWS_LENT];
+    let mut shared = [0u32; ROWS_LENT];
+    let mut sizes = [0u32; ROWS_LENT];
     answer_with(
         true,
         line,
@@ -226,9 +236,9 @@ pub fn answer(line: &[u8], words: &[u32], out: &mut [u8]) -> Written
     ensures { λ r. ⌜ (r ≡ fittingOf (answerOf (now (words .entry)) (now (line .entry))) (length (now (out .entry)))) × (now (out .exit) ≡ fittedOf (answerOf (now (words .entry)) (now (line .entry))) (now (out .entry))) ⌝ }
 {
     let mut query = [0u8; 255];
-    let mut ids = [0u32; 256];
-    let mut shared = [0u32; 256];
-    let mut sizes = [0u32; 256];
+    let mut ids = [0u32; ROWS_LENT];
+    let mut shared = [0u32; ROWS_LENT];
+    let mut sizes = [0u32; ROWS_LENT];
     answer_with(
         false,
         line,

@@ -1,19 +1,31 @@
 // The program: standard input to an index and queries, and their answers to standard output. What it writes for an input is `outputOf` of
-// crates/answers/specs/Output.antt: one refusal, or the answers of the query lines in order. An input that cannot be read is no input: nothing is
-// answered, and a message goes to standard error.
-use libc::STDERR_FILENO;
+// crates/answers/specs/Output.antt: one refusal, or the answers of the query lines in order. Each piece that it hands to a write is shown to be the
+// next piece of that. An input that cannot be read is no input: nothing is answered. A read or a write that fails is said on standard error.
+use libc::EINTR;
 use libc::STDIN_FILENO;
 use libc::STDOUT_FILENO;
 ghost use mathlib.Core.Path.{_≡_};
-ghost use Prim.Native.Nat.{_≤_};
+ghost use mathlib.Core.Bool.{true};
+ghost use Prim.Native.Nat.{_+_, _≤_, _<_};
 ghost use lib.ListN.{length};
-ghost use Rattle.index.specs.Good.{Good};
+ghost use Rattle.answers.specs.Output.{mostInput, programWords, longestAnswer, openedOf, outputOf};
+ghost use Rattle.lookup.specs.Pieces.{Next, Opened};
+
+// How often a read of the input, or a write of one piece, that a signal interrupted is made again.
+const PATIENCE: usize = 65536;
+
+// Whether the call that just failed was interrupted by a signal before it moved a byte.
+fn interrupted() -> bool {
+    os::errno() == EINTR
+}
+
+// ---- reading
 
 // Room for the most input and one byte more, by which too much of it shows.
-fn room() -> [u8; 65537]
-    ensures { λ r. ⌜ 65537 ≡ length r ⌝ }
+fn room() -> [u8; answers::MOST_INPUT + 1]
+    ensures { λ r. ⌜ mostInput + 1 ≡ length r ⌝ }
 {
-    [0; 65537]
+    [0; answers::MOST_INPUT + 1]
 }
 
 // What reading came to: how many bytes, and whether no read failed.
@@ -24,23 +36,28 @@ struct Input {
 
 // Reads standard input until it ends or the room is full.
 fn read_input(space: &mut [u8]) -> Input
+    requires { ⌜ length (now space) ≡ mostInput + 1 ⌝ }
     ensures { λ r. ⌜ r .len ≤ length (now (space .exit)) ⌝ }
 {
     let mut done: usize = 0;
+    let mut patience = PATIENCE;
     while done < space.len() {
         let got = libc::read(STDIN_FILENO, &mut space[done..]);
-        if got < 0 {
-            return Input {
-                len: 0,
-                whole: false,
-            };
-        }
         let more = io::count(got, &space[done..]);
         if more == 0 {
-            return Input {
-                len: done,
-                whole: true,
-            };
+            if got == 0 {
+                return Input {
+                    len: done,
+                    whole: true,
+                };
+            }
+            if patience == 0 || !interrupted() {
+                return Input {
+                    len: 0,
+                    whole: false,
+                };
+            }
+            patience -= 1;
         }
         done += more;
     }
@@ -50,46 +67,107 @@ fn read_input(space: &mut [u8]) -> Input
     }
 }
 
-// Writes a 58 line of no touches.
-fn refuse(number: u8, out: &mut [u8]) {
-    let refusal = frames::write_refusal(out, number, 0);
-    io::write_all(STDOUT_FILENO, &out[..refusal.len]);
+// ---- writing
+
+// What was handed over of the output: how many bytes, and whether every write took what it was given.
+struct Sent {
+    bytes: usize,
+    whole: bool,
 }
 
-// Answers the lines from `from` on, until all are answered or a write fails.
-fn answer_lines(input: &[u8], from: usize, words: &[u32], out: &mut [u8])
-    requires { ⌜ Good (now words) ⌝ }
+// Writes the text to standard output by as many calls as it takes, and answers how many of its bytes they took: fewer than all where one failed.
+fn write_text(text: &[u8]) -> usize
+    ensures { λ r. ⌜ r ≤ length (now (text .entry)) ⌝ }
 {
+    let mut done: usize = 0;
+    let mut patience = PATIENCE;
+    while done < text.len() {
+        let got = libc::write(STDOUT_FILENO, &text[done..]);
+        let more = io::count(got, &text[done..]);
+        if more == 0 {
+            if got == 0 {
+                return done;
+            }
+            if patience == 0 || !interrupted() {
+                return done;
+            }
+            patience -= 1;
+        }
+        done += more;
+    }
+    done
+}
+
+// Hands over the next piece of the output: the first `len` bytes of the buffer, behind the `sent` bytes before them.
+fn hand_over(input: &[u8], sent: usize, number: u8, len: usize, out: &[u8]) -> Sent
+    requires { ⌜ Next (now input) sent number len (now out) ⌝ }
+    ensures { λ r. ⌜ (r .whole ≡ true → r .bytes ≡ sent + len) ⌝ }
+{
+    let taken = write_text(&out[..len]);
+    Sent {
+        bytes: sent + taken,
+        whole: taken == len,
+    }
+}
+
+// ---- answering
+
+// Answers an input that is refused: with one 58 line of no touches.
+fn refuse(input: &[u8], number: u8, out: &mut [u8]) -> Sent
+    requires { ⌜ (number ≡ openedOf (now input) programWords .number) × (number ≡ 0 → ⊥) × (length (now out) ≡ longestAnswer) ⌝ }
+    ensures { λ r. ⌜ (r .whole ≡ true → r .bytes ≡ length (outputOf (now (input .entry)))) ⌝ }
+{
+    let refusal = frames::write_refusal(out, number, 0);
+    hand_over(input, 0, refusal.number, refusal.len, out)
+}
+
+// Answers the lines of an input that was opened, from `from` on, until all are answered or a write fails.
+fn answer_lines(input: &[u8], from: usize, words: &[u32], out: &mut [u8]) -> Sent
+    requires { ⌜ Opened (now input) (now words) from × (length (now out) ≡ longestAnswer) ⌝ }
+    ensures { λ r. ⌜ (r .whole ≡ true → r .bytes ≡ length (outputOf (now (input .entry)))) ⌝ }
+{
+    let mut sent: usize = 0;
     let mut at = from;
     while at < input.len() {
         let response = answers::respond_good(input, at, words, out);
-        if !io::write_all(STDOUT_FILENO, &out[..response.len]) {
-            return;
+        let piece = hand_over(input, sent, response.number, response.len, out);
+        if !piece.whole {
+            return piece;
         }
+        sent = piece.bytes;
         at = response.next;
+    }
+    Sent {
+        bytes: sent,
+        whole: true,
     }
 }
 
 // Opens the input, and answers its queries or refuses it.
-fn answer_input(input: &[u8], words: &mut [u32], out: &mut [u8]) {
+fn answer_input(input: &[u8], words: &mut [u32], out: &mut [u8]) -> Sent
+    requires { ⌜ (length (now words) ≡ programWords) × (length (now out) ≡ longestAnswer) ⌝ }
+    ensures { λ r. ⌜ (r .whole ≡ true → r .bytes ≡ length (outputOf (now (input .entry)))) ⌝ }
+{
     let opened = answers::open(input, words);
     let number = opened.number;
     if number != 0 {
-        refuse(number, out);
-        return;
+        return refuse(input, number, out);
     }
-    answer_lines(input, opened.at, words, out);
+    answer_lines(input, opened.at, words, out)
 }
 
 fn main() {
     let mut space = room();
     let input = read_input(&mut space);
     if !input.whole {
-        io::write_all(STDERR_FILENO, b"lookup: standard input cannot be read\n");
+        os::fail(b"lookup: standard input cannot be read, so nothing is answered");
         return;
     }
     let len = input.len;
-    let mut words = [0u32; 16384];
-    let mut out = [0u8; 2839];
-    answer_input(&space[..len], &mut words, &mut out);
+    let mut words = [0u32; answers::INDEX_WORDS];
+    let mut out = [0u8; answers::LONGEST_ANSWER];
+    let sent = answer_input(&space[..len], &mut words, &mut out);
+    if !sent.whole {
+        os::fail(b"lookup: standard output cannot be written, so the answers are not all there");
+    }
 }

@@ -31,7 +31,8 @@ pub fn lookup(random: &mut Random) -> Vec<u8> {
         760..=859 => stray_lines(random),
         860..=919 => ending(random),
         920..=959 => spoilt(random),
-        960..=974 => crowded(random),
+        960..=970 => crowded(random),
+        971..=974 => full(random),
         975..=989 => {
             let total = random.between(INDEX_WORDS - 1, INDEX_WORDS + 1);
             let register = registers::filling(random, total);
@@ -136,6 +137,21 @@ fn crowded(random: &mut Random) -> Vec<u8> {
     let count = random.between(0, 3);
     let queries = query_lines(random, &register, count);
     [registers::lines(&register), queries].concat().concat()
+}
+
+/// As many equal names as there may be, and queries for that very name: each answer has all the rows that are lent.
+fn full(random: &mut Random) -> Vec<u8> {
+    let length = random.between(1, 60);
+    let name = names::of_length(random, length);
+    let register: Vec<Registered> =
+        registers::ids(random, NAMES).into_iter().map(|id| Registered { id, name: name.clone() }).collect();
+    let queries = (0..random.between(1, 3)).map(|_| {
+        let q = random.between(1, 1000) as u32;
+        let p = random.between(1, q as usize) as u32;
+        let measure = random.between(1, 4) as u32;
+        queries::line(&Query { measure, p, q, allowance: u32::MAX, name: name.clone() })
+    });
+    registers::lines(&register).into_iter().chain(queries).collect::<Vec<_>>().concat()
 }
 
 /// An input of 65,535 to 65,537 bytes, or of more. What fills it stands before the last query, so that the last bytes

@@ -1,9 +1,11 @@
--- `answer_input` meets its contract: an input that is opened has a good index.
-use mathlib.Core.Path.{_≡_, sym, ap, subst, _∙_}
+-- `answer_input` meets its contract: opening goes by how many words are lent, and those are the program's.
+use mathlib.Core.Path.{_≡_, sym, ap, _∙_}
+use Prim.Native.Nat.{ℕ}
 use borrow.Author.Needs.{needs}
-use Rattle.index.specs.Good.{Good}
+use lib.ListN.{length}
 use Rattle.answers.specs.declared.Opened.{Opened}
-use Rattle.answers.proofs.Input.{opened-good}
+use Rattle.answers.specs.Output.{openedOf}
+use Rattle.answers.proofs.Pieces.{words-lent}
 use Rattle.lookup.proofs.answer_input.Statement.{statement}
 use Rattle.lookup.proofs.answer_input.Tie as tie
 
@@ -11,7 +13,14 @@ open-requires : tie.Need-open-requires
 open-requires c κs = search needs
 
 refuse-requires : tie.Need-refuse-requires
-refuse-requires c κs = search needs
+refuse-requires c κs =
+    let a = c .before .before .before .before .before .before .before .before .before .args in
+    let p = c .before .before .before .before .before .before .before .before .before .pre in
+    let o = c .before .before .before .before .«open» in (
+      ap (λ (x : Opened). x .number) (o .ensures .0) ∙ ap (λ (n : ℕ). openedOf (a .input .now) n .number) (p .0),
+      c .before .if1 .taken,
+      p .1,
+    )
 
 same-length : tie.Need-same-length
 same-length c = search needs
@@ -25,10 +34,16 @@ returns c = search needs
 answer-lines-requires : tie.Need-answer-lines-requires
 answer-lines-requires c κs =
     let a = c .before .before .before .before .before .before .before .before .before .before .args in
+    let p = c .before .before .before .before .before .before .before .before .before .before .pre in
     let o = c .before .before .before .before .before .«open» in
-    let e = o .ensures .0 in
-    let z = sym (ap (λ (x : Opened). x .number) e) ∙ c .before .before .if1 .left in
-    subst Good (sym (o .ensures .1)) (opened-good (a .input .now) (a .words .now) z)
+    let e = o .ensures .0 ∙ ap (openedOf (a .input .now)) (p .0) in (
+      record {
+        opened = sym (ap (λ (x : Opened). x .number) e) ∙ c .before .before .if1 .left;
+        queries = ap (λ (x : Opened). x .at) e;
+        index = o .ensures .1 ∙ words-lent (a .input .now) (a .words .now) (p .0);
+      },
+      p .1,
+    )
 
 same-length-3 : tie.Need-same-length-3
 same-length-3 c = search needs

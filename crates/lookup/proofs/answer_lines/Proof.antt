@@ -1,73 +1,80 @@
--- `answer_lines` meets its contract: each answer lies within the buffer, and each line starts further on.
-use mathlib.Core.Path.{_≡_, refl, sym, ap, _∙_}
+-- `answer_lines` meets its contract: before each line what is sent and the answers from there on are the output (`Sending`).
+use mathlib.Core.Path.{_≡_, sym, ap, _∙_}
+use mathlib.Core.Bool.{true, false, false≢true}
 use Prim.Native.Nat.{ℕ, _-_, _≤_, _<_}
 use native.Mathlib.Omega.{arith}
 use borrow.Author.Needs.{needs}
+use borrow.Author.Tests.{not-true, not-false}
 use lib.ListN.{length}
-use lib.Seq.{length-take-le}
+use Rattle.answers.specs.Output.{programWords}
 use Rattle.answers.specs.declared.Response.{Response}
-use Rattle.answers.proofs.Responding.{responded-within, responded-next}
+use Rattle.answers.proofs.Responding.{responded-next}
+use Rattle.answers.proofs.Pieces.{opened-few}
+use Rattle.lookup.proofs.Sending.{Sending, opened-words, sending-starts, sending-next, sending-step, sending-ends}
 use Rattle.lookup.proofs.answer_lines.Statement.{statement}
 use Rattle.lookup.proofs.answer_lines.Tie as tie
 
 abbrev Inv-loop : tie.InvT-loop
-Inv-loop input from words out₀ at₀ out at = length out ≡ length out₀
+Inv-loop input from words out₀ sent₀ at₀ out sent at = Sending input words out sent at
 
 abbrev μ-loop : tie.MeasureT-loop
-μ-loop input from words out₀ at₀ out at = length input - at
+μ-loop input from words out₀ sent₀ at₀ out sent at = length input - at
 
 loop-holds : tie.Need-loop-holds Inv-loop μ-loop
-loop-holds c = refl
+loop-holds c =
+    let a = c .before .before .before .args in
+    let p = c .before .before .before .pre in
+    sending-starts (a .input .now) (a .words .now) (a .out .now) (a .from) (p .0) (p .1)
 
 respond-good-requires : tie.Need-respond-good-requires Inv-loop μ-loop
-respond-good-requires c κs = search needs
+respond-good-requires c κs =
+    let a = c .before .before .before .before .before .before .args in
+    let p = c .before .before .before .before .before .before .pre in
+    opened-words (a .input .now) (a .words .now) (a .from) (p .0)
 
-slice-reshare-prefix-write-all : tie.Need-slice-reshare-prefix-write-all Inv-loop μ-loop
-slice-reshare-prefix-write-all c =
-    let a = c .before .before .before .before .before .before .before .before .before .args in
-    let l = c .before .before .before .before .before .loop in
-    let w = c .before .before .respond-good in
-    let e = ap (λ (x : Response). x .len) (w .ensures .0) in
-    let h = responded-within (a .words .now) (a .input .now) (l .at) (length (l .out)) in
-    let k = w .kept .1 .1 .1 .0 in
-    omega arith
-
-slice-aggregate-write-all : tie.Need-slice-aggregate-write-all Inv-loop μ-loop
-slice-aggregate-write-all c =
+hand-over-requires : tie.Need-hand-over-requires Inv-loop μ-loop
+hand-over-requires c κs =
     let a = c .before .before .before .before .before .before .before .before .before .before .args in
+    let p = c .before .before .before .before .before .before .before .before .before .before .pre in
     let l = c .before .before .before .before .before .before .loop in
+    let t = c .before .before .before .before .before .loop-test .taken in
     let w = c .before .before .before .respond-good in
-    let e = ap (λ (x : Response). x .len) (w .ensures .0) in
-    let h = responded-within (a .words .now) (a .input .now) (l .at) (length (l .out)) in
-    let k = w .kept .1 .1 .1 .0 in
-    sym (length-take-le (w .result .len) (w .last .1 .1 .1 .0) (omega arith))
-
-write-all-requires : tie.Need-write-all-requires Inv-loop μ-loop
-write-all-requires c κs = search needs
+    sending-next (a .input .now) (a .words .now) (l .out) (w .last .1 .1 .1 .0) (l .sent) (l .at) (l .inv) (w .result) (w .ensures .0) (w .ensures .1) t
+    (opened-few (a .input .now) programWords (p .0 .opened) .0)
 
 same-length : tie.Need-same-length Inv-loop μ-loop
 same-length c = search needs
 
 returns : tie.Need-returns Inv-loop μ-loop
-returns c = search needs
+returns c = λ e. absurd (false≢true (sym (not-true _ (c .if1 .taken)) ∙ e))
 
 loop-less : tie.Need-loop-less Inv-loop μ-loop
 loop-less c =
-    let a = c .before .before .before .before .before .before .before .before .before .before .before .before .args in
-    let l = c .before .before .before .before .before .before .before .before .loop in
-    let t = c .before .before .before .before .before .before .before .loop-test .taken in
-    let e = ap (λ (x : Response). x .next) (c .before .before .before .before .before .respond-good .ensures .0) in
+    let a = c .before .before .before .before .before .before .before .before .before .before .before .before .before .args in
+    let l = c .before .before .before .before .before .before .before .before .before .loop in
+    let t = c .before .before .before .before .before .before .before .before .loop-test .taken in
+    let e = ap (λ (x : Response). x .next) (c .before .before .before .before .before .before .respond-good .ensures .0) in
     let n = responded-next (a .words .now) (a .input .now) (l .at) (length (l .out)) t in
     omega arith
 
 loop-again : tie.Need-loop-again Inv-loop μ-loop
-loop-again c = c .before .before .before .before .before .respond-good .kept .1 .1 .1 .0 ∙ c .before .before .before .before .before .before .before .before .loop .inv
+loop-again c =
+    let a = c .before .before .before .before .before .before .before .before .before .before .before .before .before .args in
+    let l = c .before .before .before .before .before .before .before .before .before .loop in
+    let t = c .before .before .before .before .before .before .before .before .loop-test .taken in
+    let w = c .before .before .before .before .before .before .respond-good in
+    let h = c .before .before .hand-over in
+    sending-step (a .input .now) (a .words .now) (l .out) (w .last .1 .1 .1 .0) (l .sent) (l .at) (l .inv) (w .result) (w .ensures .0) (w .ensures .1) (h .result .bytes) t
+    (h .ensures (not-false _ (c .if1 .left)))
 
 same-length-2 : tie.Need-same-length-2 Inv-loop μ-loop
 same-length-2 c = search needs
 
 returns-2 : tie.Need-returns-2 Inv-loop μ-loop
-returns-2 c = search needs
+returns-2 c =
+    let a = c .before .before .before .before .before .args in
+    let l = c .before .loop in
+    λ e. sending-ends (a .input .now) (a .words .now) (l .out) (l .sent) (l .at) (l .inv) (c .loop-test .left)
 
 pub answer-lines-spec : {M : Type 1} → statement M
 answer-lines-spec =
@@ -77,9 +84,7 @@ answer-lines-spec =
     μ-loop
     loop-holds
     respond-good-requires
-    slice-reshare-prefix-write-all
-    slice-aggregate-write-all
-    write-all-requires
+    hand-over-requires
     same-length
     returns
     loop-less

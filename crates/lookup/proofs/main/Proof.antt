@@ -1,7 +1,7 @@
--- `main` meets its contract.
+-- `main` meets its contract: the arrays that it lends have the sizes of the rule.
 use mathlib.Core.Path.{sym}
-use borrow.Author.Needs.{needs}
 use lib.Seq.{length-take-le}
+use borrow.Author.Needs.{needs}
 use Rattle.lookup.proofs.main.Statement.{statement}
 use Rattle.lookup.proofs.main.Tie as tie
 
@@ -14,11 +14,11 @@ slice-aggregate-read-input c = search needs
 read-input-requires : tie.Need-read-input-requires
 read-input-requires c κs = search needs
 
-slice-aggregate-write-all : tie.Need-slice-aggregate-write-all
-slice-aggregate-write-all c = search needs
+slice-aggregate-fail : tie.Need-slice-aggregate-fail
+slice-aggregate-fail c = search needs
 
-write-all-requires : tie.Need-write-all-requires
-write-all-requires c κs = search needs
+fail-requires : tie.Need-fail-requires
+fail-requires c κs = search needs
 
 returns : tie.Need-returns
 returns c = search needs
@@ -40,8 +40,17 @@ slice-aggregate-answer-input-3 c = search needs
 answer-input-requires : tie.Need-answer-input-requires
 answer-input-requires c κs = search needs
 
+slice-aggregate-fail-2 : tie.Need-slice-aggregate-fail-2
+slice-aggregate-fail-2 c = search needs
+
+fail-requires-2 : tie.Need-fail-requires-2
+fail-requires-2 c κs = search needs
+
 returns-2 : tie.Need-returns-2
 returns-2 c = search needs
+
+returns-3 : tie.Need-returns-3
+returns-3 c = search needs
 
 pub main-spec : {M : Type 1} → statement M
 main-spec =
@@ -50,12 +59,15 @@ main-spec =
     room-requires
     slice-aggregate-read-input
     read-input-requires
-    slice-aggregate-write-all
-    write-all-requires
+    slice-aggregate-fail
+    fail-requires
     returns
     array-share-prefix-space
     slice-aggregate-answer-input
     slice-aggregate-answer-input-2
     slice-aggregate-answer-input-3
     answer-input-requires
-    returns-2)
+    slice-aggregate-fail-2
+    fail-requires-2
+    returns-2
+    returns-3)
