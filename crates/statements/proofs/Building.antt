@@ -2,12 +2,11 @@
 -- Assumes nothing.
 use mathlib.Core.Path.{_≡_, refl, sym, ap, ap₂, subst, _∙_}
 use mathlib.Core.Logic.{_↔_}
-use mathlib.Core.Bool.{Bool, true, false, cond, not}
-use mathlib.Core.List.{List, [], _∷_, map}
-use Prim.Native.Nat.{ℕ, _+_, _≤_, _<_}
+use mathlib.Core.Bool.{true, false, false≢true}
+use mathlib.Core.List.{List, map}
+use Prim.Native.Nat.{ℕ, _≤_, _<_}
 use native.Mathlib.Omega.{arith}
 use lib.ListN.{length, getD}
-use lib.Dec.{eqb, leb, ltb}
 use Rattle.laws.specs.Lists.{member, countOf}
 use Rattle.laws.proofs.Lists.{count-ext}
 use Rattle.names.specs.Features.{featuresOf}
@@ -22,34 +21,22 @@ use Rattle.register.specs.Build.{idIn, nameOf, wordsAfter, builtOf}
 use Rattle.register.proofs.Laws.{accepted-good, refused-words, refused-bad}
 use Rattle.register.proofs.First.{first-bad-built, none-bad, none-bad-over, none-bad-fits}
 use Rattle.register.proofs.Names.{accepted-name, accepted-count, accepted-id, accepted-size, accepted-features}
-use Rattle.search.specs.Answers.{rowsIn}
-use Rattle.statements.specs.Demands.{Question, Bytes, room, answer, number, steps, found, idsAfter, sharedAfter, sizesAfter, Case, firstCase, case, refusals, sharedBy, Reaches, rowIds, Demand2, Accepted, ofBuilt, Building, sharedWithLine, EndToEnd}
-use Rattle.statements.proofs.Demands.{demand-1, demand-2}
+use Rattle.search.specs.Answers.{numberIn, rowsIn, refusalOf}
+use Rattle.search.proofs.Answered.{search-refused}
+use Rattle.search.proofs.Found.{asked}
+use Rattle.statements.specs.Demands.{Question, Bytes, room, answer, number, idsAfter, sharedAfter, sizesAfter, Answered, RefusedBefore, sharedBy, Reaches, rowIds, Demand2, Accepted, ofBuilt, Builds, sharedWithLine, Listing, EndToEnd}
+use Rattle.statements.proofs.Demands.{refused-first, searches}
 
--- ---- words that are not good are refused with 6 at the latest
+-- ---- words that are not good
 
-early : (e l z m m′ t t′ t″ s f : Bool)
-    → let n = firstCase (case 1 e ∷ case 2 l ∷ case 3 z ∷ case 4 m ∷ case 4 m′ ∷ case 5 t ∷ case 5 t′ ∷ case 5 t″ ∷ case 6 true ∷ case 7 s ∷ case 8 f ∷ []) in
-    (1 ≤ n) × (n ≤ 6)
-unfolding firstCase
-early true l z m m′ t t′ t″ s f = (omega arith, omega arith)
-early false true z m m′ t t′ t″ s f = (omega arith, omega arith)
-early false false true m m′ t t′ t″ s f = (omega arith, omega arith)
-early false false false true m′ t t′ t″ s f = (omega arith, omega arith)
-early false false false false true t t′ t″ s f = (omega arith, omega arith)
-early false false false false false true t′ t″ s f = (omega arith, omega arith)
-early false false false false false false true t″ s f = (omega arith, omega arith)
-early false false false false false false false true s f = (omega arith, omega arith)
-early false false false false false false false false s f = (omega arith, omega arith)
-
-pub bad-refused : (a : Question) → goodOf (a .words) ≡ false → (1 ≤ number a) × (number a ≤ 6)
+-- their searches are refused before the work is counted
+pub bad-refused : (a : Question) → goodOf (a .words) ≡ false → RefusedBefore a
 bad-refused a g =
-    let j : number a ≡ firstCase (refusals a) = demand-1 a .judged in
-    let e = ap (λ (b : Bool). firstCase (case 1 (eqb (length (a .query)) 0) ∷ case 2 (ltb 64 (length (a .query))) ∷ case 3 (member 0 (a .query)) ∷ case 4 (not (leb 1 (a .measure))) ∷ case 4 (not (leb (a .measure) 4)) ∷ case 5 (not (leb 1 (a .p))) ∷ case 5 (not (leb (a .p) (a .q))) ∷ case 5 (not (leb (a .q) 1000)) ∷ case 6 (not b) ∷ case 7 (ltb (a .allowance) (steps a)) ∷ case 8 (ltb (room a) (length (found a))) ∷ [])) g in
-    let h = early (eqb (length (a .query)) 0) (ltb 64 (length (a .query))) (member 0 (a .query)) (not (leb 1 (a .measure))) (not (leb (a .measure) 4)) (not (leb 1 (a .p))) (not (leb (a .p) (a .q))) (not (leb (a .q) 1000)) (ltb (a .allowance) (steps a)) (ltb (room a) (length (found a))) in
-    let low = h .0 in
-    let high = h .1 in
-    (omega arith, omega arith)
+    let n : refusalOf (a .query) (a .measure) (a .p) (a .q) (a .words) ≡ 0 → ⊥ = λ z. false≢true (sym g ∙ asked (a .query) (a .measure) (a .p) (a .q) (a .words) z .good) in
+    let e : number a ≡ refusalOf (a .query) (a .measure) (a .p) (a .q) (a .words) =
+    ap numberIn (search-refused (a .query) (a .measure) (a .p) (a .q) (a .allowance) (a .words) (room a) (refusalOf (a .query) (a .measure) (a .p) (a .q) (a .words)) refl n)
+    in
+    (e ∙ refused-first a, λ z. n (sym e ∙ z))
 
 -- ---- a build
 
@@ -57,8 +44,8 @@ size-line : (register words : List ℕ) → Accepted register words → (i : ℕ
     → nameSize (wordsAfter register words) i ≡ length (featuresOf (nameOf (nthLine register i)))
 size-line register words k i h = accepted-size register words k i h ∙ sym (length-features (nameOf (nthLine register i)) (accepted-name register words k i h))
 
-pub building : (register words : List ℕ) → Building register words
-building register words =
+pub builds : Builds
+builds register words =
     record {
       bad-line = λ i h g b. first-bad-built register i (length words) h g b;
       no-room = λ g h.
@@ -89,11 +76,11 @@ module _ (register words : List ℕ) (a : Question) (k : Accepted register words
       (λ (f : ℕ). member f (featuresOf (nameOf (nthLine register i))))
       (λ f. accepted-features register words k i f h) (featuresOf (a .query))
 
-  pub end-to-end : Bytes (a .query) → number (ofBuilt register words a) ≡ 0 → EndToEnd register words a
-  end-to-end b n = record { exactly = exactly; true-rows = true-rows; ascending = d .ascending; twins = twins }
+  listing : Bytes (a .query) → Answered (ofBuilt register words a) → Listing register words a
+  listing b n = record { exactly = exactly; true-rows = true-rows; ascending = d .ascending; twins = twins }
     where
       d : Demand2 (ofBuilt register words a)
-      d = demand-2 (ofBuilt register words a) b n
+      d = searches (ofBuilt register words a) .two b n
 
       exactly : (i : ℕ) → i < length (linesOf register)
           → (member (idIn (nthLine register i)) (rowIds (ofBuilt register words a)) ≡ true)
@@ -130,3 +117,6 @@ module _ (register words : List ℕ) (a : Question) (k : Accepted register words
       twins i j h g e =
           let R : List ℕ → Type 0 = λ (s : List ℕ). Reaches a (length (featuresOf (a .query))) (length (featuresOf s)) (sharedOf (featuresOf (a .query)) (featuresOf s)) in
           (λ m. exactly j g .1 (subst R e (exactly i h .0 m)), λ m. exactly i h .1 (subst R (sym e) (exactly j g .0 m)))
+
+pub end-to-end : EndToEnd
+end-to-end register words a b k n = listing register words a k b n

@@ -39,21 +39,49 @@ use Rattle.search.proofs.Answered.{good-past, good-full, good-found, search-run
 use Rattle.search.proofs.Found.{refused-empty, refused-gives, given-found, Asked, asked, Answered, answered}
 use Rattle.search.proofs.Listed.{over-taken, over-beyond, over-at, answer-place, answer-ids, answer-listed}
 use Rattle.search.proofs.Work.{touches-candidates, candidates-names, touches-all, touches-most, signatures-least}
-use Rattle.statements.specs.Demands.{Question, Bytes, room, answer, number, steps, found, idsAfter, sharedAfter, sizesAfter, Case, firstCase, case, refusals, touchesWith, Demand1, sharedBy, Reaches, rowIds, Demand2, withAllowance, leastAt, listsAt, postingsAt, candidatesAt, Demand3}
+use Rattle.statements.specs.Demands.{Question, Bytes, room, answer, number, steps, found, idsAfter, sharedAfter, sizesAfter, Case, firstCase, case, beforeWork, refusals, touchesWith, Demand1, sharedBy, Reaches, rowIds, Demand2, withAllowance, leastAt, listsAt, postingsAt, candidatesAt, Demand3, Searches}
 
 -- ---- demand 1
 
--- an answer by its tests alone: the query's three, the measure's, the threshold's, the index's, the allowance's and the room's
+-- what is judged before the work is counted, by its tests alone: the query's three, the measure's, the threshold's and the index's
+judgedBy : Bool → Bool → Bool → ℕ
+judgedBy e l z = cond e 1 (cond l 2 (cond z 3 0))
+
+questionBy : ℕ → Bool → Bool → ℕ
+questionBy j m t = cond (eqb j 0) (cond m (cond t 0 5) 4) j
+
+refusalBy : ℕ → Bool → ℕ
+refusalBy n g = cond (eqb n 0) (cond g 0 6) n
+
+beforeBy : Bool → Bool → Bool → Bool → Bool → Bool → Bool → Bool → Bool → List Case
+beforeBy e l z m m′ t t′ t″ g =
+    case 1 e
+    ∷ case 2 l
+    ∷ case 3 z
+    ∷ case 4 (not m)
+    ∷ case 4 (not m′)
+    ∷ case 5 (not t)
+    ∷ case 5 (not t′)
+    ∷ case 5 (not t″)
+    ∷ case 6 (not g)
+    ∷ []
+
+refused-by : (e l z m m′ t t′ t″ g : Bool)
+    → refusalBy (questionBy (judgedBy e l z) (m && m′) (t && (t′ && t″))) g ≡ firstCase (beforeBy e l z m m′ t t′ t″ g)
+unfolding firstCase judgedBy questionBy refusalBy beforeBy
+refused-by true l z m m′ t t′ t″ g = refl
+refused-by false true z m m′ t t′ t″ g = refl
+refused-by false false true m m′ t t′ t″ g = refl
+refused-by false false false false m′ t t′ t″ g = refl
+refused-by false false false true false t t′ t″ g = refl
+refused-by false false false true true false t′ t″ g = refl
+refused-by false false false true true true false t″ g = refl
+refused-by false false false true true true true false g = refl
+refused-by false false false true true true true true false = refl
+refused-by false false false true true true true true true = refl
+
+-- the whole answer by its tests: the allowance's and the room's too
 module _ (allowance all rows p q : ℕ) where
-  judgedBy : Bool → Bool → Bool → ℕ
-  judgedBy e l z = cond e 1 (cond l 2 (cond z 3 0))
-
-  questionBy : ℕ → Bool → Bool → ℕ
-  questionBy j m t = cond (eqb j 0) (cond m (cond t 0 5) 4) j
-
-  refusalBy : ℕ → Bool → ℕ
-  refusalBy n g = cond (eqb n 0) (cond g 0 6) n
-
   answerBy : ℕ → Bool → Bool → Answer
   answerBy r s f = cond (eqb r 0) (cond s (Refused 7 allowance) (cond f (Refused 8 all) (Found rows all p q))) (Refused r 0)
 
@@ -61,26 +89,11 @@ module _ (allowance all rows p q : ℕ) where
   wholeBy e l z m t g s f = answerBy (refusalBy (questionBy (judgedBy e l z) m t) g) s f
 
   touchesBy : ℕ → ℕ
-  touchesBy n = cond (eqb n 0) all (cond (ltb n 7) 0 (cond (eqb n 7) allowance all))
-
-  tableBy : Bool → Bool → Bool → Bool → Bool → Bool → Bool → Bool → Bool → Bool → Bool → List Case
-  tableBy e l z m m′ t t′ t″ g s f =
-      case 1 e
-      ∷ case 2 l
-      ∷ case 3 z
-      ∷ case 4 (not m)
-      ∷ case 4 (not m′)
-      ∷ case 5 (not t)
-      ∷ case 5 (not t′)
-      ∷ case 5 (not t″)
-      ∷ case 6 (not g)
-      ∷ case 7 s
-      ∷ case 8 f
-      ∷ []
+  touchesBy n = cond (eqb n 0) all (cond (eqb n 8) all (cond (eqb n 7) allowance 0))
 
   judged-by : (e l z m m′ t t′ t″ g s f : Bool)
-      → numberIn (wholeBy e l z (m && m′) (t && (t′ && t″)) g s f) ≡ firstCase (tableBy e l z m m′ t t′ t″ g s f)
-  unfolding firstCase judgedBy questionBy refusalBy answerBy wholeBy tableBy
+      → numberIn (wholeBy e l z (m && m′) (t && (t′ && t″)) g s f) ≡ firstCase (beforeBy e l z m m′ t t′ t″ g ++ (case 7 s ∷ case 8 f ∷ []))
+  unfolding firstCase judgedBy questionBy refusalBy answerBy wholeBy beforeBy
   judged-by true l z m m′ t t′ t″ g s f = refl
   judged-by false true z m m′ t t′ t″ g s f = refl
   judged-by false false true m m′ t t′ t″ g s f = refl
@@ -106,9 +119,17 @@ module _ (allowance all rows p q : ℕ) where
   touched-by false false false true true true false true = refl
   touched-by false false false true true true false false = refl
 
+-- what is judged before the work is counted is the first of those cases
+pub refused-first : (a : Question) → refusalOf (a .query) (a .measure) (a .p) (a .q) (a .words) ≡ firstCase (beforeWork a)
+unfolding refusalOf questionOf judgeOf goodThreshold judgedBy questionBy refusalBy beforeBy
+refused-first a =
+    ap (λ (m : Bool). refusalBy (questionBy (judgedBy (eqb (length (a .query)) 0) (ltb 64 (length (a .query))) (member 0 (a .query))) m (goodThreshold (a .p) (a .q))) (goodOf (a .words)))
+    (measure-range (a .measure))
+    ∙ refused-by (eqb (length (a .query)) 0) (ltb 64 (length (a .query))) (member 0 (a .query)) (leb 1 (a .measure)) (leb (a .measure) 4) (leb 1 (a .p)) (leb (a .p) (a .q)) (leb (a .q) 1000) (goodOf (a .words))
+
 -- the number is the first of the table
 judged-first : (a : Question) → number a ≡ firstCase (refusals a)
-unfolding searchOf refusalOf questionOf judgeOf goodThreshold searchGoodOf judgedBy questionBy refusalBy answerBy wholeBy tableBy
+unfolding searchOf refusalOf questionOf judgeOf goodThreshold searchGoodOf judgedBy questionBy refusalBy answerBy wholeBy beforeBy
 judged-first a =
     ap (λ (m : Bool). numberIn (wholeBy (a .allowance) (steps a) (length (found a)) (lowestTerms (a .p) (a .q) .p) (lowestTerms (a .p) (a .q) .q) (eqb (length (a .query)) 0) (ltb 64 (length (a .query))) (member 0 (a .query)) m (goodThreshold (a .p) (a .q)) (goodOf (a .words)) (ltb (a .allowance) (steps a)) (ltb (room a) (length (found a)))))
     (measure-range (a .measure))
@@ -119,7 +140,7 @@ unfolding searchOf refusalOf questionOf judgeOf searchGoodOf judgedBy questionBy
 touched-with a =
     touched-by (a .allowance) (steps a) (length (found a)) (lowestTerms (a .p) (a .q) .p) (lowestTerms (a .p) (a .q) .q) (eqb (length (a .query)) 0) (ltb 64 (length (a .query))) (member 0 (a .query)) (goodMeasure (a .measure)) (goodThreshold (a .p) (a .q)) (goodOf (a .words)) (ltb (a .allowance) (steps a)) (ltb (room a) (length (found a)))
 
-pub demand-1 : (a : Question) → Demand1 a
+demand-1 : (a : Question) → Demand1 a
 demand-1 a =
     record {
       judged = judged-first a;
@@ -146,7 +167,7 @@ answered-by : (a : Question) → number a ≡ 0 → AnsweredBy a
 answered-by a n = answered (a .query) (a .measure) (a .p) (a .q) (a .allowance) (a .words) (room a) n
 
 -- a name shares the features that it stands for
-pub shared-by : (a : Question) → AskedBy a → Bytes (a .query) → (i : ℕ) → i < nameCount (a .words)
+shared-by : (a : Question) → AskedBy a → Bytes (a .query) → (i : ℕ) → i < nameCount (a .words)
     → sharedWith (a .words) (featuresOf (a .query)) i ≡ sharedBy a i
 unfolding sharedWith sharedOf
 shared-by a k b i h =
@@ -154,7 +175,7 @@ shared-by a k b i h =
     ∙ count-ext (λ (f : ℕ). member (nameId (a .words) i) (listIn (a .words) (nameSize (a .words) i) f)) (λ (f : ℕ). member f (featuresIn (a .words) (nameId (a .words) i)))
     (λ f. sym (features-member (a .words) (k .good) i h f)) (featuresOf (a .query))
 
-pub demand-2 : (a : Question) → Bytes (a .query) → number a ≡ 0 → Demand2 a
+demand-2 : (a : Question) → Bytes (a .query) → number a ≡ 0 → Demand2 a
 demand-2 a b n =
     record {
       exactly = exactly;
@@ -276,7 +297,7 @@ module _ (a : Question) (b : Bytes (a .query)) (z : refusalOf (a .query) (a .mea
   unfolding touchesOfSize
   no-size y e = rw e
 
-  pub demand-3 : Demand3 a
+  demand-3 : Demand3 a
   demand-3 =
       record {
         seven = (within, past);
@@ -294,3 +315,13 @@ module _ (a : Question) (b : Bytes (a .query)) (z : refusalOf (a .query) (a .mea
         most = touches-most (a .words) (asked-by .good) (a .measure) (a .p) (a .q) (asked-by .known) (asked-by .exact) (featuresOf (a .query)) asks (size-most (a .query));
         smallest = λ y chosen n. signatures-least (a .words) y (featuresOf (a .query)) (leastAt a y) (asks .small) chosen n;
       }
+
+-- ---- the three together
+
+pub searches : Searches
+searches a =
+    record {
+      one = demand-1 a;
+      two = λ b n. demand-2 a b (judged-first a ∙ n);
+      three = λ b z. demand-3 a b (refused-first a ∙ z);
+    }

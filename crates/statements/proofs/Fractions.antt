@@ -78,10 +78,14 @@ module _ (a : Question) (p q : ℕ) (g : goodThreshold (a .p) (a .q) ≡ true) (
   unfolding searchOf
   answer-equal = rw (refusal-equal, good-equal)
 
-pub fractions : (a : Question) → Fractions a
-fractions a p q low mid high low′ mid′ high′ e =
-    let g = facts-threshold (a .p) (a .q) low mid high in
-    let g′ = facts-threshold p q low′ mid′ high′ in
+pub fractions : Fractions
+fractions a p q good good′ e =
+    let g = facts-threshold (a .p) (a .q) (good .0) (good .1) (good .2) in
+    let g′ = facts-threshold p q (good′ .0) (good′ .1) (good′ .2) in
+    let low = good .0 in
+    let mid = good .1 in
+    let low′ = good′ .0 in
+    let mid′ = good′ .1 in
     let s = answer-equal a p q g g′ e (lowest-equal (a .p) (a .q) p q (omega arith) (omega arith) e) in
     let f = sym (found-equal (a .words) (a .measure) (a .p) (a .q) p q g g′ e (featuresOf (a .query))) in (
       s,

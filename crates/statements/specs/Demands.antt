@@ -1,11 +1,12 @@
--- The demands on a search, in full: what a reader has to believe, and nothing of how it is shown. Shown in proofs/Demands.antt.
+-- The demands on a search, in full: what a reader has to believe, and nothing of how it is shown. What each demand assumes stands here too:
+-- `Searches`, `Fractions`, `Builds`, `EndToEnd` and `Frames` are types with nothing left open, and each is what a theorem of proofs/ proves, whole.
 -- The function `search` answers `answer` and leaves `idsAfter`, `sharedAfter` and `sizesAfter`, for every input, by its contract.
 -- A list of bytes is a list of numbers below 256; every lent slice of bytes is one.
 -- Assumes nothing.
 use mathlib.Core.Path.{_≡_}
 use mathlib.Core.Logic.{_↔_}
 use mathlib.Core.Bool.{Bool, true, false, cond, not}
-use mathlib.Core.List.{List, [], _∷_, map}
+use mathlib.Core.List.{List, [], _∷_, _++_, map}
 use Prim.Native.Nat.{ℕ, _+_, _-_, _*_, _≤_, _<_}
 use lib.ListN.{length, getD, take, drop, replicate}
 use lib.Dec.{eqb, leb, ltb}
@@ -100,9 +101,9 @@ firstCase (c ∷ cs) = cond (c .applies) (c .number) (firstCase cs)
 abbrev pub case : ℕ → Bool → Case
 case n b = record { applies = b; number = n }
 
--- the refusals, in the order in which they are judged
-abbrev pub refusals : Question → List Case
-refusals a =
+-- the refusals, in the order in which they are judged: first those that are judged before the work is counted
+abbrev pub beforeWork : Question → List Case
+beforeWork a =
     case 1 (eqb (length (a .query)) 0)
     ∷ case 2 (ltb 64 (length (a .query)))
     ∷ case 3 (member 0 (a .query))
@@ -112,18 +113,38 @@ refusals a =
     ∷ case 5 (not (leb (a .p) (a .q)))
     ∷ case 5 (not (leb (a .q) 1000))
     ∷ case 6 (not (goodOf (a .words)))
-    ∷ case 7 (ltb (a .allowance) (steps a))
+    ∷ []
+
+-- then those that the count and the list decide
+abbrev pub afterWork : Question → List Case
+afterWork a =
+    case 7 (ltb (a .allowance) (steps a))
     ∷ case 8 (ltb (room a) (length (found a)))
     ∷ []
 
--- the touches that go with a number
+abbrev pub refusals : Question → List Case
+refusals a = beforeWork a ++ afterWork a
+
+-- the question is answered: no refusal applies
+abbrev pub Answered : Question → Type 0
+Answered a = firstCase (refusals a) ≡ 0
+
+-- the work of the question is counted: no refusal applies that is judged before that
+abbrev pub Counted : Question → Type 0
+Counted a = firstCase (beforeWork a) ≡ 0
+
+-- the question is refused before its work is counted
+abbrev pub RefusedBefore : Question → Type 0
+RefusedBefore a = (number a ≡ firstCase (beforeWork a)) × (number a ≡ 0 → ⊥)
+
+-- the touches that go with a number: with an answer and with 8 all steps, with 7 the allowance, with any other none
 abbrev pub touchesWith : Question → ℕ → ℕ
-touchesWith a n = cond (eqb n 0) (steps a) (cond (ltb n 7) 0 (cond (eqb n 7) (a .allowance) (steps a)))
+touchesWith a n = cond (eqb n 0) (steps a) (cond (eqb n 8) (steps a) (cond (eqb n 7) (a .allowance) 0))
 
 pub record Demand1 (a : Question) : Type 0 where
   -- every question has its number, and it is the first that the table has for it
   pub judged : number a ≡ firstCase (refusals a)
-  -- before 7 no touches are reported, with 7 the allowance, with 8 and with an answer all of them
+  -- the touches that are reported are those that go with it
   pub touched : touchesIn (answer a) ≡ touchesWith a (number a)
   -- a refusal reports no rows, and the threshold as 0/0
   pub nothing : (number a ≡ 0 → ⊥) → (rowsIn (answer a) ≡ 0) × (thresholdP (answer a) ≡ 0) × (thresholdQ (answer a) ≡ 0)
@@ -202,7 +223,6 @@ postingsAt a y = signaturePostings (listsAt a y) (leastAt a y)
 abbrev pub candidatesAt : Question → ℕ → ℕ
 candidatesAt a y = remaining (a .words) y (listsAt a y) (leastAt a y) 0
 
--- of a question that is not refused before 7
 pub record Demand3 (a : Question) : Type 0 where
   -- 7 comes exactly when the allowance is below the count of the method's steps
   pub seven : (number a ≡ 7) ↔ (a .allowance < steps a)
@@ -229,6 +249,20 @@ pub record Demand3 (a : Question) : Type 0 where
       → countOf chosen (featuresOf (a .query)) ≡ signatures (length (featuresOf (a .query))) (leastAt a y)
       → postingsAt a y ≤ sumOf (map (λ (f : ℕ). length (listIn (a .words) y f)) (filterOf chosen (featuresOf (a .query))))
 
+-- ---- the three together
+
+pub record Demands (a : Question) : Type 0 where
+  -- of every question
+  pub one : Demand1 a
+  -- of an answered one, whose query is bytes
+  pub two : Bytes (a .query) → Answered a → Demand2 a
+  -- of one whose work is counted, whose query is bytes
+  pub three : Bytes (a .query) → Counted a → Demand3 a
+
+-- proved by `searches`
+abbrev pub Searches : Type 0
+Searches = (a : Question) → Demands a
+
 -- ---- equal fractions
 
 -- the same question with another threshold
@@ -246,9 +280,13 @@ withThreshold p q a =
       sizes = a .sizes;
     }
 
--- two good thresholds that are one fraction give one answer and one list
-abbrev pub Fractions : Question → Type 0
-Fractions a = (p q : ℕ) → 1 ≤ a .p → a .p ≤ a .q → a .q ≤ 1000 → 1 ≤ p → p ≤ q → q ≤ 1000 → a .p * q ≡ p * a .q
+-- a threshold that is not refused
+abbrev pub GoodThreshold : ℕ → ℕ → Type 0
+GoodThreshold p q = (1 ≤ p) × (p ≤ q) × (q ≤ 1000)
+
+-- two good thresholds that are one fraction give one answer and one list: proved by `fractions`
+abbrev pub Fractions : Type 0
+Fractions = (a : Question) (p q : ℕ) → GoodThreshold (a .p) (a .q) → GoodThreshold p q → a .p * q ≡ p * a .q
     → (answer (withThreshold p q a) ≡ answer a)
     × (idsAfter (withThreshold p q a) ≡ idsAfter a)
     × (sharedAfter (withThreshold p q a) ≡ sharedAfter a)
@@ -293,9 +331,13 @@ pub record Building (register words : List ℕ) : Type 0 where
       → nameSize (wordsAfter register words) i ≡ length (featuresOf (nameOf (nthLine register i)))
   pub features : Accepted register words → (i f : ℕ) → i < length (linesOf register)
       → member f (featuresIn (wordsAfter register words) (idIn (nthLine register i))) ≡ member f (featuresOf (nameOf (nthLine register i)))
-  -- a refused build sets every word, and every search of those words is refused, with a number before 7
+  -- a refused build sets every word, and every search of those words is refused before its work is counted
   pub every-word : (Accepted register words → ⊥) → wordsAfter register words ≡ replicate (length words) 4294967295
-  pub refused : (Accepted register words → ⊥) → (a : Question) → (1 ≤ number (ofBuilt register words a)) × (number (ofBuilt register words a) ≤ 6)
+  pub refused : (Accepted register words → ⊥) → (a : Question) → RefusedBefore (ofBuilt register words a)
+
+-- proved by `builds`
+abbrev pub Builds : Type 0
+Builds = (register words : List ℕ) → Building register words
 
 -- ---- end to end
 
@@ -303,8 +345,8 @@ pub record Building (register words : List ℕ) : Type 0 where
 abbrev pub sharedWithLine : List ℕ → Question → ℕ → ℕ
 sharedWithLine register a i = sharedOf (featuresOf (a .query)) (featuresOf (nameOf (nthLine register i)))
 
--- an answered search of a register's index: listed are exactly the register's names that are similar by their own features
-pub record EndToEnd (register words : List ℕ) (a : Question) : Type 0 where
+-- listed are exactly the register's names that are similar by their own features
+pub record Listing (register words : List ℕ) (a : Question) : Type 0 where
   pub exactly : (i : ℕ) → i < length (linesOf register)
       → (member (idIn (nthLine register i)) (rowIds (ofBuilt register words a)) ≡ true)
       ↔ Reaches a (length (featuresOf (a .query))) (length (featuresOf (nameOf (nthLine register i)))) (sharedWithLine register a i)
@@ -320,9 +362,14 @@ pub record EndToEnd (register words : List ℕ) (a : Question) : Type 0 where
       → (member (idIn (nthLine register i)) (rowIds (ofBuilt register words a)) ≡ true)
       ↔ (member (idIn (nthLine register j)) (rowIds (ofBuilt register words a)) ≡ true)
 
+-- so of every answered search of an accepted register's index: proved by `end-to-end`
+abbrev pub EndToEnd : Type 0
+EndToEnd = (register words : List ℕ) (a : Question) → Bytes (a .query) → Accepted register words → Answered (ofBuilt register words a)
+    → Listing register words a
+
 -- ---- the frames
 
--- what is written reads back, and a good line that was read is written again
+-- what is written reads back, and a good line that was read is written again: proved by `frames`
 pub record Frames : Type 0 where
   pub name-back : (id : ℕ) (name : List ℕ) (room : ℕ) → id < 65536 → Bytes name → length name ≤ 255 → length name ≤ room
       → readOf nameFrame (lineOf nameFrame (id ∷ []) name) room ≡ nameOut (record { number = 0; id = id; len = length name })

@@ -1,6 +1,7 @@
 -- The worked figures of the rule, as one table: what the definitions give, and what it should be.
 -- Proved together in proofs/Figures.antt. A new figure is one more row here.
 -- Assumes nothing.
+use mathlib.Core.Path.{_≡_}
 use mathlib.Core.Bool.{Bool, true, false, _&&_, cond}
 use mathlib.Core.List.{List, [], _∷_}
 use Prim.Native.Nat.{ℕ}
@@ -132,3 +133,7 @@ figures =
 unfoldable pub allRight : List Figure → Bool
 allRight [] = true
 allRight (f ∷ l) = eqb (f .is) (f .should) && allRight l
+
+-- proved by `figures-right`
+abbrev pub FiguresRight : Type 0
+FiguresRight = allRight figures ≡ true
