@@ -2,4 +2,5 @@ pub mod Figures
 pub mod Demands
 pub mod Fractions
 pub mod Building
+pub mod Frames
 pub mod Program

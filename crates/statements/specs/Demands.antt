@@ -23,7 +23,7 @@ use Rattle.words.specs.Words.{nameCount, nameId, nameSize}
 use Rattle.index.specs.Good.{goodOf, Good}
 use Rattle.postings.specs.Built.{wordsOf}
 use Rattle.lists.specs.Lists.{listIn, featuresIn}
-use Rattle.layouts.specs.Layouts.{isFrame, nameIn, lineOf, readOf}
+use Rattle.layouts.specs.Layouts.{isFrame, nameIn, lineOf, readOf, bufferOf}
 use Rattle.frames.specs.Frames.{nameFrame, queryFrame, rowFrame, endFrame, refusalFrame, layouts, nameOut, queryOut, rowOut, endOut, refusalOut}
 use Rattle.frames.specs.declared.NameRead.{NameRead}
 use Rattle.frames.specs.declared.QueryRead.{QueryRead}
@@ -377,6 +377,12 @@ pub record Frames : Type 0 where
       → Bytes query → length query ≤ 255 → length query ≤ room
       → readOf queryFrame (lineOf queryFrame (measure ∷ p ∷ q ∷ allowance ∷ []) query) room
       ≡ queryOut (record { number = 0; measure = measure; p = p; q = q; allowance = allowance; len = length query })
+  -- and the lent buffer starts with the name or the query; what stood behind that is kept
+  pub name-buffer : (id : ℕ) (name buffer : List ℕ) → id < 65536 → Bytes name → length name ≤ 255 → length name ≤ length buffer
+      → bufferOf nameFrame (lineOf nameFrame (id ∷ []) name) buffer ≡ name ++ drop (length name) buffer
+  pub query-buffer : (measure p q allowance : ℕ) (query buffer : List ℕ) → measure < 256 → p < 65536 → q < 65536 → allowance < 4294967296
+      → Bytes query → length query ≤ 255 → length query ≤ length buffer
+      → bufferOf queryFrame (lineOf queryFrame (measure ∷ p ∷ q ∷ allowance ∷ []) query) buffer ≡ query ++ drop (length query) buffer
   pub row-back : (id shared size : ℕ) → id < 65536 → shared < 256 → size < 256
       → readOf rowFrame (lineOf rowFrame (id ∷ shared ∷ size ∷ []) []) 0 ≡ rowOut (Row id shared size)
   pub end-back : (rows touches p q : ℕ) → rows < 65536 → touches < 4294967296 → p < 65536 → q < 65536
