@@ -24,17 +24,18 @@ use Rattle.register.proofs.Names.{accepted-name, accepted-count, accepted-id, a
 use Rattle.search.specs.Answers.{numberIn, rowsIn, refusalOf}
 use Rattle.search.proofs.Answered.{search-refused}
 use Rattle.search.proofs.Found.{asked}
-use Rattle.statements.specs.Demands.{Question, Bytes, room, answer, number, idsAfter, sharedAfter, sizesAfter, Answered, RefusedBefore, sharedBy, Reaches, rowIds, Demand2, Accepted, ofBuilt, Builds, sharedWithLine, Listing, EndToEnd}
-use Rattle.statements.proofs.Demands.{refused-first, searches}
+use Rattle.statements.specs.Demands.{Lending, columns, records, Question, Bytes, answer, number, after, Answered, RefusedBefore, sharedBy, Reaches, rowIds, Demand2, Accepted, ofBuilt, Builds, sharedWithLine, Listing, EndToEnd}
+use Rattle.statements.proofs.Lent.{Lends, columns-lend, records-lend}
+use Rattle.statements.proofs.Demands.{refused-first, demands}
 
 -- ---- words that are not good
 
 -- their searches are refused before the work is counted
-pub bad-refused : (a : Question) → goodOf (a .words) ≡ false → RefusedBefore a
-bad-refused a g =
+bad-refused : {A : Type 0} (s : Lending A) (a : Question A) → goodOf (a .words) ≡ false → RefusedBefore s a
+bad-refused s a g =
     let n : refusalOf (a .query) (a .measure) (a .p) (a .q) (a .words) ≡ 0 → ⊥ = λ z. false≢true (sym g ∙ asked (a .query) (a .measure) (a .p) (a .q) (a .words) z .good) in
-    let e : number a ≡ refusalOf (a .query) (a .measure) (a .p) (a .q) (a .words) =
-    ap numberIn (search-refused (a .query) (a .measure) (a .p) (a .q) (a .allowance) (a .words) (room a) (refusalOf (a .query) (a .measure) (a .p) (a .q) (a .words)) refl n)
+    let e : number s a ≡ refusalOf (a .query) (a .measure) (a .p) (a .q) (a .words) =
+    ap numberIn (search-refused (a .query) (a .measure) (a .p) (a .q) (a .allowance) (a .words) (s .room (a .lent)) (refusalOf (a .query) (a .measure) (a .p) (a .q) (a .words)) refl n)
     in
     (e ∙ refused-first a, λ z. n (sym e ∙ z))
 
@@ -60,12 +61,15 @@ builds register words =
       size = size-line register words;
       features = λ k i f h. accepted-features register words k i f h;
       every-word = refused-words register words;
-      refused = λ n a. bad-refused (ofBuilt register words a) (refused-bad register words n);
+      refused = λ n. (
+        λ a. bad-refused columns (ofBuilt register words a) (refused-bad register words n),
+        λ a. bad-refused records (ofBuilt register words a) (refused-bad register words n),
+      );
     }
 
 -- ---- end to end
 
-module _ (register words : List ℕ) (a : Question) (k : Accepted register words) where
+module _ {A : Type 0} (s : Lending A) (lends : Lends s) (register words : List ℕ) (a : Question A) (k : Accepted register words) where
   -- a line's name shares the features that it stands for
   shared-line : (i : ℕ) → i < length (linesOf register) → sharedBy (ofBuilt register words a) i ≡ sharedWithLine register a i
   unfolding sharedOf
@@ -76,14 +80,14 @@ module _ (register words : List ℕ) (a : Question) (k : Accepted register words
       (λ (f : ℕ). member f (featuresOf (nameOf (nthLine register i))))
       (λ f. accepted-features register words k i f h) (featuresOf (a .query))
 
-  listing : Bytes (a .query) → Answered (ofBuilt register words a) → Listing register words a
+  listing : Bytes (a .query) → Answered s (ofBuilt register words a) → Listing s register words a
   listing b n = record { exactly = exactly; true-rows = true-rows; ascending = d .ascending; twins = twins }
     where
-      d : Demand2 (ofBuilt register words a)
-      d = searches (ofBuilt register words a) .two b n
+      d : Demand2 s (ofBuilt register words a)
+      d = demands s lends (ofBuilt register words a) .two b n
 
       exactly : (i : ℕ) → i < length (linesOf register)
-          → (member (idIn (nthLine register i)) (rowIds (ofBuilt register words a)) ≡ true)
+          → (member (idIn (nthLine register i)) (rowIds s (ofBuilt register words a)) ≡ true)
           ↔ Reaches a (length (featuresOf (a .query))) (length (featuresOf (nameOf (nthLine register i)))) (sharedWithLine register a i)
       exactly i h =
           let c = accepted-count register words k in
@@ -93,18 +97,18 @@ module _ (register words : List ℕ) (a : Question) (k : Accepted register words
           let z = shared-line i h in (
             λ m. subst (λ (t : ℕ). Reaches a (length (featuresOf (a .query))) t (sharedWithLine register a i)) y
                 (subst (λ (t : ℕ). Reaches a (length (featuresOf (a .query))) (nameSize (wordsAfter register words) i) t) z
-                (e .0 (ap (λ (t : ℕ). member t (rowIds (ofBuilt register words a))) x ∙ m))),
-            λ r. sym (ap (λ (t : ℕ). member t (rowIds (ofBuilt register words a))) x)
+                (e .0 (ap (λ (t : ℕ). member t (rowIds s (ofBuilt register words a))) x ∙ m))),
+            λ r. sym (ap (λ (t : ℕ). member t (rowIds s (ofBuilt register words a))) x)
                 ∙ e .1 (subst (λ (t : ℕ). Reaches a (length (featuresOf (a .query))) (nameSize (wordsAfter register words) i) t) (sym z)
                 (subst (λ (t : ℕ). Reaches a (length (featuresOf (a .query))) t (sharedWithLine register a i)) (sym y) r)),
           )
 
-      true-rows : (j : ℕ) → j < rowsIn (answer (ofBuilt register words a))
+      true-rows : (j : ℕ) → j < rowsIn (answer s (ofBuilt register words a))
           → (i : ℕ)
           × (i < length (linesOf register))
-          × (getD (idsAfter (ofBuilt register words a)) j 0 ≡ idIn (nthLine register i))
-          × (getD (sharedAfter (ofBuilt register words a)) j 0 ≡ sharedWithLine register a i)
-          × (getD (sizesAfter (ofBuilt register words a)) j 0 ≡ length (featuresOf (nameOf (nthLine register i))))
+          × (getD (s .ids (after s (ofBuilt register words a))) j 0 ≡ idIn (nthLine register i))
+          × (getD (s .shared (after s (ofBuilt register words a))) j 0 ≡ sharedWithLine register a i)
+          × (getD (s .sizes (after s (ofBuilt register words a))) j 0 ≡ length (featuresOf (nameOf (nthLine register i))))
       true-rows j l =
           let r = d .true-rows j l in
           let c = accepted-count register words k in
@@ -113,10 +117,13 @@ module _ (register words : List ℕ) (a : Question) (k : Accepted register words
           (r .0, h, r .2 ∙ accepted-id register words k (r .0) h, r .3 ∙ shared-line (r .0) h, r .4 ∙ size-line register words k (r .0) h)
 
       twins : (i j : ℕ) → i < length (linesOf register) → j < length (linesOf register) → nameOf (nthLine register i) ≡ nameOf (nthLine register j)
-          → (member (idIn (nthLine register i)) (rowIds (ofBuilt register words a)) ≡ true) ↔ (member (idIn (nthLine register j)) (rowIds (ofBuilt register words a)) ≡ true)
+          → (member (idIn (nthLine register i)) (rowIds s (ofBuilt register words a)) ≡ true) ↔ (member (idIn (nthLine register j)) (rowIds s (ofBuilt register words a)) ≡ true)
       twins i j h g e =
-          let R : List ℕ → Type 0 = λ (s : List ℕ). Reaches a (length (featuresOf (a .query))) (length (featuresOf s)) (sharedOf (featuresOf (a .query)) (featuresOf s)) in
+          let R : List ℕ → Type 0 = λ (t : List ℕ). Reaches a (length (featuresOf (a .query))) (length (featuresOf t)) (sharedOf (featuresOf (a .query)) (featuresOf t)) in
           (λ m. exactly j g .1 (subst R e (exactly i h .0 m)), λ m. exactly i h .1 (subst R (sym e) (exactly j g .0 m)))
 
 pub end-to-end : EndToEnd
-end-to-end register words a b k n = listing register words a k b n
+end-to-end register words = (
+  λ a b k n. listing columns columns-lend register words a k b n,
+  λ a b k n. listing records records-lend register words a k b n,
+)

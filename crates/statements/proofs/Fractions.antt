@@ -19,10 +19,10 @@ use Rattle.likeness.proofs.Terms.{lowest-equal}
 use Rattle.words.specs.Words.{nameCount, nameId, nameSize}
 use Rattle.candidates.specs.Method.{remains, laterCount}
 use Rattle.search.specs.Method.{listsFor, touchesAt, sizesEnd, touchesOfSize, touchesOf, listed, answersBelow, answersOf}
-use Rattle.search.specs.Answers.{questionOf, refusalOf, searchGoodOf, searchOf, givenBy, over, idColumn, sharedColumn, sizeColumn}
+use Rattle.search.specs.Answers.{questionOf, refusalOf, searchGoodOf, searchOf, givenBy}
 use Rattle.search.specs.declared.Answer.{Answer}
 use Rattle.search.specs.declared.Answer.the-variants.{Found, Refused}
-use Rattle.statements.specs.Demands.{Question, room, answer, found, withThreshold, Fractions}
+use Rattle.statements.specs.Demands.{Lending, columns, records, Question, answer, withThreshold, SameFraction, Fractions}
 
 module _ (w : List ℕ) (m p q p′ q′ : ℕ) (g : goodThreshold p q ≡ true) (g′ : goodThreshold p′ q′ ≡ true) (e : p * q′ ≡ p′ * q) (query : List ℕ) where
   size-equal : (y : ℕ) → touchesOfSize w m p q query y ≡ touchesOfSize w m p′ q′ query y
@@ -57,39 +57,41 @@ answerFrom : ℕ → ℕ → ℕ → List ℕ → Threshold → Answer
 answerFrom allowance room steps found t =
     cond (ltb allowance steps) (Refused 7 allowance) (cond (ltb room (length found)) (Refused 8 steps) (Found (length found) steps (t .p) (t .q)))
 
-module _ (a : Question) (p q : ℕ) (g : goodThreshold (a .p) (a .q) ≡ true) (g′ : goodThreshold p q ≡ true) (e : a .p * q ≡ p * a .q)
+module _ {A : Type 0} (s : Lending A) (a : Question A) (p q : ℕ) (g : goodThreshold (a .p) (a .q) ≡ true) (g′ : goodThreshold p q ≡ true) (e : a .p * q ≡ p * a .q)
     (one : lowestTerms (a .p) (a .q) ≡ lowestTerms p q) where
-  good-equal : searchGoodOf (a .query) (a .measure) p q (a .allowance) (a .words) (room a)
-      ≡ searchGoodOf (a .query) (a .measure) (a .p) (a .q) (a .allowance) (a .words) (room a)
+  abbrev room : ℕ
+  room = s .room (a .lent)
+
+  good-equal : searchGoodOf (a .query) (a .measure) p q (a .allowance) (a .words) room
+      ≡ searchGoodOf (a .query) (a .measure) (a .p) (a .q) (a .allowance) (a .words) room
   unfolding searchGoodOf answerFrom
   good-equal =
       sym (
-      ap₂ (λ (n : ℕ) (l : List ℕ). answerFrom (a .allowance) (room a) n l (lowestTerms (a .p) (a .q)))
+      ap₂ (λ (n : ℕ) (l : List ℕ). answerFrom (a .allowance) room n l (lowestTerms (a .p) (a .q)))
       (steps-equal (a .words) (a .measure) (a .p) (a .q) p q g g′ e (featuresOf (a .query)))
       (found-equal (a .words) (a .measure) (a .p) (a .q) p q g g′ e (featuresOf (a .query)))
-      ∙ ap (answerFrom (a .allowance) (room a) (touchesOf (a .words) (a .measure) p q (featuresOf (a .query))) (answersOf (a .words) (a .measure) p q (featuresOf (a .query)))) one
+      ∙ ap (answerFrom (a .allowance) room (touchesOf (a .words) (a .measure) p q (featuresOf (a .query))) (answersOf (a .words) (a .measure) p q (featuresOf (a .query)))) one
       )
 
   refusal-equal : refusalOf (a .query) (a .measure) p q (a .words) ≡ refusalOf (a .query) (a .measure) (a .p) (a .q) (a .words)
   unfolding refusalOf questionOf
   refusal-equal = rw (g, g′)
 
-  answer-equal : answer (withThreshold p q a) ≡ answer a
+  answer-equal : answer s (withThreshold p q a) ≡ answer s a
   unfolding searchOf
   answer-equal = rw (refusal-equal, good-equal)
 
-pub fractions : Fractions
-fractions a p q good good′ e =
+same-fraction : {A : Type 0} (s : Lending A) (a : Question A) → SameFraction A s a
+same-fraction s a p q good good′ e =
     let g = facts-threshold (a .p) (a .q) (good .0) (good .1) (good .2) in
     let g′ = facts-threshold p q (good′ .0) (good′ .1) (good′ .2) in
     let low = good .0 in
     let mid = good .1 in
     let low′ = good′ .0 in
     let mid′ = good′ .1 in
-    let s = answer-equal a p q g g′ e (lowest-equal (a .p) (a .q) p q (omega arith) (omega arith) e) in
-    let f = sym (found-equal (a .words) (a .measure) (a .p) (a .q) p q g g′ e (featuresOf (a .query))) in (
-      s,
-      ap₂ (λ (r : Answer) (l : List ℕ). over (idColumn (a .words) (givenBy r l)) (a .ids)) s f,
-      ap₂ (λ (r : Answer) (l : List ℕ). over (sharedColumn (a .words) (featuresOf (a .query)) (givenBy r l)) (a .shared)) s f,
-      ap₂ (λ (r : Answer) (l : List ℕ). over (sizeColumn (a .words) (givenBy r l)) (a .sizes)) s f,
-    )
+    let r = answer-equal s a p q g g′ e (lowest-equal (a .p) (a .q) p q (omega arith) (omega arith) e) in
+    let f = sym (found-equal (a .words) (a .measure) (a .p) (a .q) p q g g′ e (featuresOf (a .query))) in
+    (r, ap₂ (λ (x : Answer) (l : List ℕ). s .written (a .words) (featuresOf (a .query)) (givenBy x l) (a .lent)) r f)
+
+pub fractions : Fractions
+fractions = (same-fraction columns, same-fraction records)

@@ -1,4 +1,5 @@
 pub mod Figures
+pub mod Lent
 pub mod Demands
 pub mod Fractions
 pub mod Building
