@@ -1,5 +1,5 @@
 -- The demands on a search, in full: what a reader has to believe, and nothing of how it is shown. What each demand assumes stands here too:
--- `Searches`, `Fractions`, `Builds`, `EndToEnd` and `Frames` are types with nothing left open, and each is what a theorem of proofs/ proves, whole.
+-- `Searches`, `Fractions`, `SameFrames`, `Builds`, `EndToEnd` and `Frames` are types with nothing left open, and each is what a theorem of proofs/ proves, whole.
 -- The functions `search` and `search_rows` answer `answer` and leave `after`, for every input, by their contracts; the first is lent `columns`,
 -- the second `records`, and all that is said of a search is said of both.
 -- A list of bytes is a list of numbers below 256; every lent slice of bytes is one.
@@ -39,7 +39,7 @@ use Rattle.search.specs.Answers.{numberIn, rowsIn, touchesIn, thresholdP, thres
 use Rattle.search.specs.declared.Answer.{Answer}
 use Rattle.rows.specs.Rows.{rowsOf, overRows}
 use Rattle.rows.specs.declared.Row.{Row as Record}
-use Rattle.answers.specs.Output.{mostInput, registerEnd, programWords, openedOf, openWords, lineText, refusalLine, answersText, outputOf}
+use Rattle.answers.specs.Output.{answerOf, mostInput, registerEnd, programWords, openedOf, openWords, lineText, refusalLine, answersText, outputOf}
 
 -- ---- rows that are lent
 
@@ -329,6 +329,14 @@ SameFraction A s a = (p q : ℕ) → GoodThreshold (a .p) (a .q) → GoodThresho
 -- proved by `fractions`
 abbrev pub Fractions : Type 0
 Fractions = Every SameFraction
+
+-- and one answer in frames: two 51 lines that differ in the threshold alone, and there not in the fraction, are answered with the same lines,
+-- from any words. Proved by `same-frames`
+abbrev pub SameFrames : Type 0
+SameFrames = (words query : List ℕ) (measure p q p′ q′ allowance : ℕ) → Bytes query → length query ≤ 255 → measure < 256 → allowance < 4294967296
+    → GoodThreshold p q → GoodThreshold p′ q′ → p * q′ ≡ p′ * q
+    → answerOf words (lineOf queryFrame (measure ∷ p ∷ q ∷ allowance ∷ []) query)
+    ≡ answerOf words (lineOf queryFrame (measure ∷ p′ ∷ q′ ∷ allowance ∷ []) query)
 
 -- ---- a build
 
