@@ -1,27 +1,28 @@
 -- What a build and a search of what it built come to: specs/Demands.antt says what, this file cites why.
 -- Assumes nothing.
-use mathlib.Core.Path.{_≡_, refl, sym, ap, ap₂, subst, _∙_}
+use mathlib.Core.Path.{_≡_, refl, sym, ap, subst, _∙_}
 use mathlib.Core.Logic.{_↔_}
 use mathlib.Core.Bool.{true, false, false≢true}
-use mathlib.Core.List.{List, map}
+use mathlib.Core.List.{List}
 use Prim.Native.Nat.{ℕ, _≤_, _<_}
 use native.Mathlib.Omega.{arith}
 use lib.ListN.{length, getD}
-use Rattle.laws.specs.Lists.{member, countOf}
+use Rattle.laws.specs.Lists.{member}
 use Rattle.laws.proofs.Lists.{count-ext}
 use Rattle.names.specs.Features.{featuresOf}
 use Rattle.names.specs.Shared.{sharedOf}
 use Rattle.names.proofs.Laws.{length-features}
-use Rattle.words.specs.Words.{nameCount, nameId, nameSize}
+use Rattle.words.specs.Words.{nameSize}
 use Rattle.index.specs.Good.{goodOf}
 use Rattle.postings.specs.Built.{Entry, wordsOf}
 use Rattle.lists.specs.Lists.{featuresIn}
 use Rattle.register.specs.Lines.{linesOf, nthLine}
-use Rattle.register.specs.Build.{idIn, nameOf, wordsAfter, builtOf}
+use Rattle.register.specs.Build.{idIn, nameOf, wordsAfter}
 use Rattle.register.proofs.Laws.{accepted-good, refused-words, refused-bad}
 use Rattle.register.proofs.First.{first-bad-built, none-bad, none-bad-over, none-bad-fits}
 use Rattle.register.proofs.Names.{accepted-name, accepted-count, accepted-id, accepted-size, accepted-features}
 use Rattle.search.specs.Answers.{numberIn, rowsIn, refusalOf}
+use Rattle.search.specs.declared.Answer.the-variants.{Refused}
 use Rattle.search.proofs.Answered.{search-refused}
 use Rattle.search.proofs.Found.{asked}
 use Rattle.statements.specs.Demands.{Lending, columns, records, Question, Bytes, answer, number, after, Answered, RefusedBefore, sharedBy, Reaches, rowIds, Demand2, Accepted, ofBuilt, Builds, sharedWithLine, Listing, EndToEnd}
@@ -30,14 +31,17 @@ use Rattle.statements.proofs.Demands.{refused-first, demands}
 
 -- ---- words that are not good
 
--- their searches are refused before the work is counted
-bad-refused : {A : Type 0} (s : Lending A) (a : Question A) → goodOf (a .words) ≡ false → RefusedBefore s a
-bad-refused s a g =
+-- what their searches answer
+pub bad-answer : {A : Type 0} (s : Lending A) (a : Question A) → goodOf (a .words) ≡ false
+    → (answer s a ≡ Refused (refusalOf (a .query) (a .measure) (a .p) (a .q) (a .words)) 0) × (number s a ≡ 0 → ⊥)
+bad-answer s a g =
     let n : refusalOf (a .query) (a .measure) (a .p) (a .q) (a .words) ≡ 0 → ⊥ = λ z. false≢true (sym g ∙ asked (a .query) (a .measure) (a .p) (a .q) (a .words) z .good) in
-    let e : number s a ≡ refusalOf (a .query) (a .measure) (a .p) (a .q) (a .words) =
-    ap numberIn (search-refused (a .query) (a .measure) (a .p) (a .q) (a .allowance) (a .words) (s .room (a .lent)) (refusalOf (a .query) (a .measure) (a .p) (a .q) (a .words)) refl n)
-    in
-    (e ∙ refused-first a, λ z. n (sym e ∙ z))
+    let e = search-refused (a .query) (a .measure) (a .p) (a .q) (a .allowance) (a .words) (s .room (a .lent)) (refusalOf (a .query) (a .measure) (a .p) (a .q) (a .words)) refl n in
+    (e, λ z. n (sym (ap numberIn e) ∙ z))
+
+-- they are refused before the work is counted
+bad-refused : {A : Type 0} (s : Lending A) (a : Question A) → goodOf (a .words) ≡ false → RefusedBefore s a
+bad-refused s a g = (ap numberIn (bad-answer s a g .0) ∙ refused-first a, bad-answer s a g .1)
 
 -- ---- a build
 

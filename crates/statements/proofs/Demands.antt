@@ -1,43 +1,39 @@
 -- The demands hold: specs/Demands.antt says what, this file cites why.
 -- Assumes nothing.
 use mathlib.Core.Path.{_≡_, refl, sym, ap, ap₂, subst, _∙_}
-use mathlib.Core.Logic.{_⊎_, ⊎-elim, _↔_}
-use mathlib.Core.Bool.{Bool, true, false, cond, not, _&&_, false≢true}
+use mathlib.Core.Logic.{_↔_}
+use mathlib.Core.Bool.{Bool, true, false, cond, not, _&&_}
 use mathlib.Core.List.{List, [], _∷_, _++_, map}
-use Prim.Native.Nat.{ℕ, zero, suc, _+_, _-_, _*_, _≤_, _<_}
+use Prim.Native.Nat.{ℕ, _+_, _-_, _*_, _≤_, _<_}
 use native.Mathlib.Omega.{arith}
-use lib.ListN.{length, getD, take, drop, length-map}
+use lib.ListN.{length, getD, take, length-map}
 use lib.Dec.{eqb, leb, ltb}
-use borrow.Author.Tests.{eq-eqb, ne-eqb, ltb-true, ltb-false, lt-ltb, le-ltb}
-use Rattle.laws.specs.Lists.{member, Ascending, countOf, sumOf}
-use Rattle.laws.specs.Filter.{filterOf}
+use borrow.Author.Tests.{ltb-true, lt-ltb, le-ltb}
+use Rattle.laws.specs.Lists.{member, Ascending}
 use Rattle.laws.proofs.Lists.{count-ext}
 use Rattle.laws.proofs.Members.{member-at}
-use Rattle.laws.proofs.Order.{eq-or-ne}
 use Rattle.names.specs.Names.{judgeOf}
 use Rattle.names.specs.Features.{featuresOf}
 use Rattle.names.specs.Shared.{sharedOf}
-use Rattle.names.proofs.Laws.{size-within, size-most}
-use Rattle.likeness.specs.Measures.{goodMeasure, goodThreshold, isSimilar, measureOf}
+use Rattle.names.proofs.Laws.{size-most}
+use Rattle.likeness.specs.Measures.{goodMeasure, goodThreshold, isSimilar}
 use Rattle.likeness.specs.Sizes.{isSearched}
-use Rattle.likeness.specs.Least.{leastCount}
 use Rattle.likeness.specs.Terms.{lowestTerms}
-use Rattle.likeness.proofs.Measures.{measure-range, similar-fraction, facts-threshold}
+use Rattle.likeness.proofs.Measures.{measure-range, similar-fraction}
 use Rattle.likeness.proofs.Least.{least-pos, least-within}
 use Rattle.words.specs.Words.{nameCount, nameId, nameSize}
-use Rattle.index.specs.Good.{goodOf, Good}
+use Rattle.index.specs.Good.{goodOf}
 use Rattle.lists.specs.Lists.{listIn, featuresIn}
 use Rattle.lists.proofs.Laws.{features-member}
-use Rattle.candidates.specs.Method.{heldBy}
-use Rattle.search.specs.Method.{namesOf, sharedWith, listsFor, listed, touchesAt, touchesOfSize, touchesOf, answersOf}
-use Rattle.search.specs.Answers.{numberIn, rowsIn, touchesIn, thresholdP, thresholdQ, questionOf, refusalOf, searchGoodOf, searchOf, givenBy, idColumn, sharedColumn, sizeColumn, over, roomOf}
+use Rattle.search.specs.Method.{namesOf, sharedWith, touchesOfSize}
+use Rattle.search.specs.Answers.{numberIn, rowsIn, touchesIn, thresholdP, thresholdQ, questionOf, refusalOf, searchGoodOf, searchOf, givenBy, idColumn, sharedColumn, sizeColumn, over}
 use Rattle.search.specs.declared.Answer.{Answer}
 use Rattle.search.specs.declared.Answer.the-variants.{Found, Refused}
 use Rattle.search.proofs.Laws.{length-lists, held-features, listed-similar, Query}
 use Rattle.search.proofs.Whole.{query-features}
 use Rattle.search.proofs.Answered.{good-past, good-full, good-found, search-runs}
 use Rattle.search.proofs.Found.{refused-empty, refused-gives, given-found, Asked, asked, Answered as AnsweredOf, answered}
-use Rattle.search.proofs.Listed.{over-taken, over-beyond, over-at, answer-place, answer-ids, answer-listed}
+use Rattle.search.proofs.Listed.{over-taken, over-at, answer-place, answer-ids, answer-listed}
 use Rattle.search.proofs.Work.{touches-candidates, candidates-names, touches-all, touches-most, signatures-least}
 use Rattle.statements.specs.Demands.{Lending, columns, records, Question, Bytes, answer, number, steps, found, after, Case, firstCase, case, beforeWork, refusals, touchesWith, Demand1, sharedBy, Reaches, rowIds, Demand2, withAllowance, leastAt, listsAt, postingsAt, candidatesAt, Demand3, Demands, Searches}
 use Rattle.statements.proofs.Lent.{Lends, columns-lend, records-lend}

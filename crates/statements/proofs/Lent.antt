@@ -1,15 +1,19 @@
 -- What the demands take from a way to lend rows, and that columns and records have it: written rows are the columns of `search`, over what stood there.
 -- Assumes nothing.
-use mathlib.Core.Path.{_≡_, refl, sym, ap, _∙_}
-use mathlib.Core.List.{List, [], map}
+use mathlib.Core.Path.{_≡_, refl, sym, ap, ap₂, _∙_}
+use mathlib.Core.Bool.{true}
+use mathlib.Core.List.{List, [], _∷_, map}
 use Prim.Native.Nat.{ℕ}
 use lib.ListN.{length, drop, length-map}
 use lib.Seq.{drop-append-seam}
+use Rattle.laws.specs.Lists.{member}
+use Rattle.laws.proofs.Members.{member-head, member-tail}
 use Rattle.words.specs.Words.{nameId, nameSize}
 use Rattle.search.specs.Method.{sharedWith}
 use Rattle.search.specs.Answers.{over, idColumn, sharedColumn, sizeColumn}
 use Rattle.search.proofs.Listed.{over-beyond}
-use Rattle.rows.specs.Rows.{rowOf, rowsOf}
+use Rattle.rows.specs.Rows.{rowOf, rowsOf, overRows}
+use Rattle.rows.specs.declared.Row.{Row}
 use Rattle.rows.proofs.Laws.{over-ids, over-shared, over-sizes}
 use Rattle.statements.specs.Demands.{Lending, columns, records}
 
@@ -19,6 +23,13 @@ pub record Lends {A : Type 0} (s : Lending A) : Type 0 where
   pub sizes : (w query places : List ℕ) (l : A) → s .sizes (s .written w query places l) ≡ over (sizeColumn w places) (s .sizes l)
   pub behind : (w query places : List ℕ) (l : A) → s .behind (length places) (s .written w query places l) ≡ s .behind (length places) l
   pub none : (w query : List ℕ) (l : A) → s .written w query [] l ≡ l
+  -- names with the same rows are written alike
+  pub alike : (w v query places : List ℕ) (l : A) → ((i : ℕ) → member i places ≡ true → rowOf w query i ≡ rowOf v query i)
+      → s .written w query places l ≡ s .written v query places l
+
+map-members : {B : Type 0} (f g : ℕ → B) (l : List ℕ) → ((x : ℕ) → member x l ≡ true → f x ≡ g x) → map f l ≡ map g l
+map-members f g [] e = refl
+map-members {B} f g (x ∷ l) e = ap₂ (λ (y : B) (k : List B). y ∷ k) (e x (member-head x l)) (map-members f g l (λ y m. e y (member-tail x y l m)))
 
 -- behind as many entries as there are places
 beyond : (f : ℕ → ℕ) (places l : List ℕ) → drop (length places) (over (map f places) l) ≡ drop (length places) l
@@ -39,6 +50,12 @@ columns-lend =
             sizes = beyond (nameSize w) places (l .sizes) t;
           };
       none = λ w query l. refl;
+      alike = λ w v query places l e t.
+          record {
+            ids = over (map-members (nameId w) (nameId v) places (λ i m. ap (λ (r : Row). r .id) (e i m)) t) (l .ids);
+            shared = over (map-members (sharedWith w query) (sharedWith v query) places (λ i m. ap (λ (r : Row). r .shared) (e i m)) t) (l .shared);
+            sizes = over (map-members (nameSize w) (nameSize v) places (λ i m. ap (λ (r : Row). r .size) (e i m)) t) (l .sizes);
+          };
     }
 
 pub records-lend : Lends records
@@ -53,4 +70,5 @@ records-lend =
           ∙ drop-append-seam (rowsOf w query places) (drop (length (rowsOf w query places)) l)
           ∙ ap (λ (m : ℕ). drop m l) n;
       none = λ w query l. refl;
+      alike = λ w v query places l e. ap (λ (rows : List Row). overRows rows l) (map-members (rowOf w query) (rowOf v query) places e);
     }

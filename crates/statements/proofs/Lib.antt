@@ -3,5 +3,6 @@ pub mod Lent
 pub mod Demands
 pub mod Fractions
 pub mod Building
+pub mod Beyond
 pub mod Frames
 pub mod Program

@@ -1,5 +1,5 @@
 -- The demands on a search, in full: what a reader has to believe, and nothing of how it is shown. What each demand assumes stands here too:
--- `Searches`, `Fractions`, `SameFrames`, `Builds`, `EndToEnd` and `Frames` are types with nothing left open, and each is what a theorem of proofs/ proves, whole.
+-- `Searches`, `Fractions`, `SameFrames`, `Beyond`, `Builds`, `EndToEnd` and `Frames` are types with nothing left open, and each is what a theorem of proofs/ proves, whole.
 -- The functions `search` and `search_rows` answer `answer` and leave `after`, for every input, by their contracts; the first is lent `columns`,
 -- the second `records`, and all that is said of a search is said of both.
 -- A list of bytes is a list of numbers below 256; every lent slice of bytes is one.
@@ -20,7 +20,7 @@ use Rattle.likeness.specs.Sizes.{isSearched}
 use Rattle.likeness.specs.Least.{leastCount}
 use Rattle.likeness.specs.Fractions.{FractionLe, numerator, denominator, raised}
 use Rattle.likeness.specs.Terms.{lowestTerms}
-use Rattle.words.specs.Words.{nameCount, nameId, nameSize}
+use Rattle.words.specs.Words.{nameCount, nameId, nameSize, total}
 use Rattle.index.specs.Good.{goodOf, Good}
 use Rattle.postings.specs.Built.{wordsOf}
 use Rattle.lists.specs.Lists.{listIn, featuresIn}
@@ -39,7 +39,8 @@ use Rattle.search.specs.Answers.{numberIn, rowsIn, touchesIn, thresholdP, thres
 use Rattle.search.specs.declared.Answer.{Answer}
 use Rattle.rows.specs.Rows.{rowsOf, overRows}
 use Rattle.rows.specs.declared.Row.{Row as Record}
-use Rattle.answers.specs.Output.{answerOf, mostInput, registerEnd, programWords, openedOf, openWords, lineText, refusalLine, answersText, outputOf}
+use Rattle.answers.specs.Output.{answerOf}
+use Rattle.answers.specs.Output.{mostInput, registerEnd, programWords, openedOf, openWords, lineText, refusalLine, answersText, outputOf}
 
 -- ---- rows that are lent
 
@@ -338,6 +339,30 @@ SameFrames = (words query : List ℕ) (measure p q p′ q′ allowance : ℕ) �
     → answerOf words (lineOf queryFrame (measure ∷ p ∷ q ∷ allowance ∷ []) query)
     ≡ answerOf words (lineOf queryFrame (measure ∷ p′ ∷ q′ ∷ allowance ∷ []) query)
 
+-- ---- words beyond the total
+
+-- the same question, asked of other words
+abbrev pub withWords : {A : Type 0} → List ℕ → Question A → Question A
+withWords words a =
+    record {
+      query = a .query;
+      measure = a .measure;
+      p = a .p;
+      q = a .q;
+      allowance = a .allowance;
+      words = words;
+      lent = a .lent;
+    }
+
+-- words that agree on the first 3 + N + 4D + P give one answer and one list, whatever stands beyond those
+abbrev pub SameWords : (A : Type 0) → Lending A → Question A → Type 0
+SameWords A s a = (other : List ℕ) → total (a .words) ≤ length other → take (total (a .words)) (a .words) ≡ take (total (a .words)) other
+    → (answer s (withWords other a) ≡ answer s a) × (after s (withWords other a) ≡ after s a)
+
+-- proved by `beyond`
+abbrev pub Beyond : Type 0
+Beyond = Every SameWords
+
 -- ---- a build
 
 -- an accepted build
@@ -346,16 +371,7 @@ Accepted register words = builtOf register (length words) .number ≡ 0
 
 -- the same question, asked of the words that a build leaves
 abbrev pub ofBuilt : {A : Type 0} → List ℕ → List ℕ → Question A → Question A
-ofBuilt register words a =
-    record {
-      query = a .query;
-      measure = a .measure;
-      p = a .p;
-      q = a .q;
-      allowance = a .allowance;
-      words = wordsAfter register words;
-      lent = a .lent;
-    }
+ofBuilt register words a = withWords (wordsAfter register words) a
 
 -- line i of the register, from 0, is judged behind the lines before it: 11, 1, 2, 3, 9, 10 in that order, or 0
 pub record Building (register words : List ℕ) : Type 0 where
