@@ -1,5 +1,5 @@
--- Words that agree on the first 3 + N + 4D + P words have the same head, the same names and, where they are good, the same rows and lists; and
--- they are good where the others are. Laws.antt hands on `good-total` and `verdict-total`; the names' and the lists' laws are cited by `lists` and `search`.
+-- Words that agree on the first 3 + N + 4D + P words have the same head, names and rows and, where they are good, the same lists; and one is good
+-- where the other is. Laws.antt hands this last on (`good-total`, `verdict-total`); the others are cited by `lists`, `search` and `statements`.
 -- Assumes nothing.
 use mathlib.Core.Path.{_≡_, refl, sym, ap, ap₂, _∙_}
 use mathlib.Core.Bool.{true, cond, _&&_, _||_}
