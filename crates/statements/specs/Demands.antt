@@ -1,5 +1,6 @@
 -- The demands on a search, in full: what a reader has to believe, and nothing of how it is shown. What each demand assumes stands here too:
--- `Searches`, `Fractions`, `SameFrames`, `Beyond`, `Builds`, `EndToEnd` and `Frames` are types with nothing left open, and each is what a theorem of proofs/ proves, whole.
+-- `Searches`, `Fractions`, `SameFrames`, `Beyond`, `Builds`, `EndToEnd` and `Frames` are types with nothing left open, and each is proved as it
+-- stands by a theorem of proofs/.
 -- The functions `search` and `search_rows` answer `answer` and leave `after`, for every input, by their contracts; the first is lent `columns`,
 -- the second `records`, and all that is said of a search is said of both.
 -- A list of bytes is a list of numbers below 256; every lent slice of bytes is one.
