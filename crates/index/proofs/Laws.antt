@@ -5,21 +5,22 @@ use mathlib.Core.Logic.{⊎-elim}
 use mathlib.Core.Bool.{true, false, _&&_}
 use mathlib.Core.List.{List}
 use Prim.Native.Nat.{ℕ, _+_, _≤_, _<_}
-use native.Mathlib.Nat.{eq-or-lt-of-le}
+use native.Mathlib.Nat.{eq-or-lt-of-le, min-le-right}
 use native.Mathlib.Omega.{arith}
-use lib.ListN.{length, take, replicate, length-replicate, getD-replicate}
+use lib.ListN.{length, take, replicate, length-take, length-replicate, getD-replicate}
+use lib.Seq.{length-take-le}
 use lib.Dec.{ltb, eqb}
 use borrow.Author.Tests.{lt-ltb, le-ltb, eqb-true}
 use Rattle.laws.specs.Lists.{member, Ascending}
 use Rattle.laws.proofs.Below.{and-left, and-right, any-at}
-use Rattle.laws.proofs.Tests.{test-fails}
+use Rattle.laws.proofs.Tests.{same-test, test-fails}
 use Rattle.laws.proofs.Ascending.{rises, rises-apart, ascending-next}
 use Rattle.laws.proofs.Members.{member-place}
 use Rattle.laws.proofs.Halving.{count-below-place}
 use Rattle.words.specs.Words.{nameCount, rowCount, postingCount, nameId, nameSize, rowSize, rowPlace, rowLength, posting, listAt, total}
 use Rattle.index.specs.Good.{mostNames, mostPostings, isName, Good, headGood, namesGood, rowsGood, listsGood, goodOf}
 use Rattle.index.specs.Check.{namePlace, Checked}
-use Rattle.index.proofs.Total.{total-good}
+use Rattle.index.proofs.Total.{total-same, total-good}
 use Rattle.index.proofs.Facts.{Whole, good-facts, length-list, list-getD}
 
 -- ---- the head
@@ -91,7 +92,26 @@ module _ (w : List ℕ) (g : Good w) where
 
 -- a good index is judged by its first 3 + N + 4D + P words
 pub good-total : (w v : List ℕ) → take (total w) w ≡ take (total w) v → total w ≤ length v → Good w → Good v
-good-total w v same long g = total-good w v g same long
+good-total w v same long g = total-good w v same long g
+
+-- so words that agree on them have one verdict
+pub verdict-total : (w v : List ℕ) → take (total w) w ≡ take (total w) v → total w ≤ length v → goodOf v ≡ goodOf w
+verdict-total w v same long =
+    same-test (goodOf v) (goodOf w)
+    (λ g. good-total v w (ap (λ (n : ℕ). take n v) alike ∙ sym same ∙ ap (λ (n : ℕ). take n w) (sym alike)) enough g)
+    (good-total w v same long)
+  where
+    alike : total v ≡ total w
+    alike = total-same w v same long
+
+    -- what agrees is as long
+    enough : total v ≤ length w
+    enough =
+        let e = alike in
+        let a : length (take (total w) v) ≡ total w = length-take-le (total w) v long in
+        let b = ap length same in
+        let c = length-take (total w) w in
+        omega (arith, min-le-right (total w) (length w))
 
 -- words that are all 4,294,967,295 are not good, however many
 pub refused-not-good : (n : ℕ) → goodOf (replicate n 4294967295) ≡ false

@@ -4,4 +4,4 @@ pub mod Keys
 mod Check
 mod Names
 mod Tally
-mod Total
+pub mod Total

@@ -4,4 +4,3 @@ pub mod Sizes
 pub mod Least
 pub mod Terms
 pub mod Fits
-pub mod Figures

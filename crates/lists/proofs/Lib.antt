@@ -2,3 +2,4 @@ pub mod Laws
 mod Rows
 mod Sized
 pub mod Spans
+pub mod Total

@@ -1,12 +1,12 @@
 -- Laws of a lent list of rows after a search: its length, its given rows, what stood behind them, and that their fields are the columns of `search`.
 -- For callers of `search_rows`. Assumes nothing.
 use mathlib.Core.Path.{_≡_, refl, sym, ap, _∙_}
-use mathlib.Core.List.{List, [], _∷_, _++_, map}
-use Prim.Native.Nat.{ℕ, _+_, _-_, _≤_, _<_}
+use mathlib.Core.List.{List, [], _∷_, _++_, map, map-append}
+use Prim.Native.Nat.{ℕ, zero, suc, _+_, _-_, _≤_, _<_}
 use native.Mathlib.Omega.{arith}
-use lib.ListN.{length, getD, drop, length-append, length-drop, List·getD-append}
+use lib.ListN.{length, getD, drop, length-append, length-drop, length-map, List·getD-append}
 use lib.Seq.{getD-drop, getD-append-add}
-use Rattle.search.specs.Answers.{givenBy, idColumn, sharedColumn, sizeColumn}
+use Rattle.search.specs.Answers.{givenBy, over, idColumn, sharedColumn, sizeColumn}
 use Rattle.search.specs.declared.Answer.the-variants.{Refused}
 use Rattle.rows.specs.declared.Row.{Row}
 use Rattle.rows.specs.Rows.{rowOf, rowsOf, overRows}
@@ -49,3 +49,29 @@ rows-shared w query places = fields _ _ w query (λ i. refl) places
 
 pub rows-sizes : (w query places : List ℕ) → map (λ (r : Row). r .size) (rowsOf w query places) ≡ sizeColumn w places
 rows-sizes w query places = fields _ _ w query (λ i. refl) places
+
+-- ---- the rows over a lent list
+
+map-drop : (f : Row → ℕ) (n : ℕ) (l : List Row) → map f (drop n l) ≡ drop n (map f l)
+map-drop f zero l = refl
+map-drop f (suc n) [] = refl
+map-drop f (suc n) (r ∷ l) = map-drop f n l
+
+-- the fields of the list afterwards are the column over the fields that it had
+over-fields : (f : Row → ℕ) (given l : List Row) (c : List ℕ) → map f given ≡ c → map f (overRows given l) ≡ over c (map f l)
+over-fields f given l c e =
+    map-append f given (drop (length given) l)
+    ∙ ap (λ (t : List ℕ). map f given ++ t) (map-drop f (length given) l ∙ ap (λ (n : ℕ). drop n (map f l)) (sym (length-map given f)))
+    ∙ ap (λ (d : List ℕ). over d (map f l)) e
+
+pub over-ids : (w query places : List ℕ) (l : List Row)
+    → map (λ (r : Row). r .id) (overRows (rowsOf w query places) l) ≡ over (idColumn w places) (map (λ (r : Row). r .id) l)
+over-ids w query places l = over-fields _ (rowsOf w query places) l (idColumn w places) (rows-ids w query places)
+
+pub over-shared : (w query places : List ℕ) (l : List Row)
+    → map (λ (r : Row). r .shared) (overRows (rowsOf w query places) l) ≡ over (sharedColumn w query places) (map (λ (r : Row). r .shared) l)
+over-shared w query places l = over-fields _ (rowsOf w query places) l (sharedColumn w query places) (rows-shared w query places)
+
+pub over-sizes : (w query places : List ℕ) (l : List Row)
+    → map (λ (r : Row). r .size) (overRows (rowsOf w query places) l) ≡ over (sizeColumn w places) (map (λ (r : Row). r .size) l)
+over-sizes w query places l = over-fields _ (rowsOf w query places) l (sizeColumn w places) (rows-sizes w query places)

@@ -10,3 +10,4 @@ pub mod Whole
 pub mod Answered
 pub mod Listed
 pub mod Found
+pub mod Total

@@ -1,4 +1,4 @@
--- Two thresholds that are one fraction, as 70/100 and 7/10, give one answer and one list.
+-- Two thresholds that are one fraction, as 70/100 and 7/10, give one answer, one list and one text.
 -- Assumes nothing.
 use mathlib.Core.Path.{_≡_, refl, sym, ap, ap₂, _∙_}
 use mathlib.Core.Bool.{Bool, true, cond, _&&_}
@@ -19,73 +19,115 @@ use Rattle.likeness.proofs.Terms.{lowest-equal}
 use Rattle.words.specs.Words.{nameCount, nameId, nameSize}
 use Rattle.candidates.specs.Method.{remains, laterCount}
 use Rattle.search.specs.Method.{listsFor, touchesAt, sizesEnd, touchesOfSize, touchesOf, listed, answersBelow, answersOf}
-use Rattle.search.specs.Answers.{questionOf, refusalOf, searchGoodOf, searchOf, givenBy, over, idColumn, sharedColumn, sizeColumn}
+use Rattle.search.specs.Answers.{questionOf, refusalOf, searchGoodOf, searchOf, givenBy, idColumn, sharedColumn, sizeColumn}
 use Rattle.search.specs.declared.Answer.{Answer}
 use Rattle.search.specs.declared.Answer.the-variants.{Found, Refused}
-use Rattle.statements.specs.Demands.{Question, room, answer, found, withThreshold, Fractions}
+use Rattle.layouts.specs.Layouts.{Fitting, lineOf}
+use Rattle.layouts.proofs.Laws.{fitting-named, frame-written, fields-written, name-written}
+use Rattle.frames.specs.Frames.{queryFrame}
+use Rattle.answers.specs.Output.{answerText, rowsLent, answerOf}
+use Rattle.statements.specs.Demands.{Lending, columns, records, Question, Bytes, GoodThreshold, SameFraction, Fractions, SameFrames}
 
-module _ (w : List ℕ) (m p q p′ q′ : ℕ) (g : goodThreshold p q ≡ true) (g′ : goodThreshold p′ q′ ≡ true) (e : p * q′ ≡ p′ * q) (query : List ℕ) where
-  size-equal : (y : ℕ) → touchesOfSize w m p q query y ≡ touchesOfSize w m p′ q′ query y
-  unfolding touchesOfSize
-  size-equal y =
-      ap₂ (λ (b : Bool) (t : ℕ). cond b (touchesAt w y (listsFor w y query) t) 0)
-      (searched-equal m p q p′ q′ (length query) y g g′ e)
-      (least-equal m p q p′ q′ (length query) y g g′ e)
+module _ (w : List ℕ) (m p q p′ q′ : ℕ) (good : GoodThreshold p q) (good′ : GoodThreshold p′ q′) (e : p * q′ ≡ p′ * q) where
+  g : goodThreshold p q ≡ true
+  g = facts-threshold p q (good .0) (good .1) (good .2)
 
-  steps-equal : touchesOf w m p q query ≡ touchesOf w m p′ q′ query
-  unfolding touchesOf
-  steps-equal = sum-below-ext sizesEnd (touchesOfSize w m p q query) (touchesOfSize w m p′ q′ query) (λ y h. size-equal y)
+  g′ : goodThreshold p′ q′ ≡ true
+  g′ = facts-threshold p′ q′ (good′ .0) (good′ .1) (good′ .2)
 
-  listed-equal : (i : ℕ) → listed w m p q query i ≡ listed w m p′ q′ query i
-  unfolding listed
-  listed-equal i =
-      ap₂ (λ (b : Bool) (t : ℕ). b && remains (listsFor w (nameSize w i) query) t (laterCount (listsFor w (nameSize w i) query) t) (nameId w i))
-      (searched-equal m p q p′ q′ (length query) (nameSize w i) g g′ e)
-      (least-equal m p q p′ q′ (length query) (nameSize w i) g g′ e)
+  one : lowestTerms p q ≡ lowestTerms p′ q′
+  one =
+      let low = good .0 in
+      let mid = good .1 in
+      let low′ = good′ .0 in
+      let mid′ = good′ .1 in
+      lowest-equal p q p′ q′ (omega arith) (omega arith) e
 
-  below-equal : (k : ℕ) → answersBelow w m p q query k ≡ answersBelow w m p′ q′ query k
-  unfolding answersBelow
-  below-equal zero = refl
-  below-equal (suc k) = ap₂ (λ (l : List ℕ) (b : Bool). l ++ cond b (k ∷ []) []) (below-equal k) (listed-equal k)
+  module _ (query : List ℕ) where
+    size-equal : (y : ℕ) → touchesOfSize w m p q query y ≡ touchesOfSize w m p′ q′ query y
+    unfolding touchesOfSize
+    size-equal y =
+        ap₂ (λ (b : Bool) (t : ℕ). cond b (touchesAt w y (listsFor w y query) t) 0)
+        (searched-equal m p q p′ q′ (length query) y g g′ e)
+        (least-equal m p q p′ q′ (length query) y g g′ e)
 
-  found-equal : answersOf w m p q query ≡ answersOf w m p′ q′ query
-  unfolding answersOf
-  found-equal = below-equal (nameCount w)
+    steps-equal : touchesOf w m p q query ≡ touchesOf w m p′ q′ query
+    unfolding touchesOf
+    steps-equal = sum-below-ext sizesEnd (touchesOfSize w m p q query) (touchesOfSize w m p′ q′ query) (λ y h. size-equal y)
 
--- the answer, from what it depends on
-answerFrom : ℕ → ℕ → ℕ → List ℕ → Threshold → Answer
-answerFrom allowance room steps found t =
-    cond (ltb allowance steps) (Refused 7 allowance) (cond (ltb room (length found)) (Refused 8 steps) (Found (length found) steps (t .p) (t .q)))
+    listed-equal : (i : ℕ) → listed w m p q query i ≡ listed w m p′ q′ query i
+    unfolding listed
+    listed-equal i =
+        ap₂ (λ (b : Bool) (t : ℕ). b && remains (listsFor w (nameSize w i) query) t (laterCount (listsFor w (nameSize w i) query) t) (nameId w i))
+        (searched-equal m p q p′ q′ (length query) (nameSize w i) g g′ e)
+        (least-equal m p q p′ q′ (length query) (nameSize w i) g g′ e)
 
-module _ (a : Question) (p q : ℕ) (g : goodThreshold (a .p) (a .q) ≡ true) (g′ : goodThreshold p q ≡ true) (e : a .p * q ≡ p * a .q)
-    (one : lowestTerms (a .p) (a .q) ≡ lowestTerms p q) where
-  good-equal : searchGoodOf (a .query) (a .measure) p q (a .allowance) (a .words) (room a)
-      ≡ searchGoodOf (a .query) (a .measure) (a .p) (a .q) (a .allowance) (a .words) (room a)
-  unfolding searchGoodOf answerFrom
-  good-equal =
-      sym (
-      ap₂ (λ (n : ℕ) (l : List ℕ). answerFrom (a .allowance) (room a) n l (lowestTerms (a .p) (a .q)))
-      (steps-equal (a .words) (a .measure) (a .p) (a .q) p q g g′ e (featuresOf (a .query)))
-      (found-equal (a .words) (a .measure) (a .p) (a .q) p q g g′ e (featuresOf (a .query)))
-      ∙ ap (answerFrom (a .allowance) (room a) (touchesOf (a .words) (a .measure) p q (featuresOf (a .query))) (answersOf (a .words) (a .measure) p q (featuresOf (a .query)))) one
-      )
+    below-equal : (k : ℕ) → answersBelow w m p q query k ≡ answersBelow w m p′ q′ query k
+    unfolding answersBelow
+    below-equal zero = refl
+    below-equal (suc k) = ap₂ (λ (l : List ℕ) (b : Bool). l ++ cond b (k ∷ []) []) (below-equal k) (listed-equal k)
 
-  refusal-equal : refusalOf (a .query) (a .measure) p q (a .words) ≡ refusalOf (a .query) (a .measure) (a .p) (a .q) (a .words)
-  unfolding refusalOf questionOf
-  refusal-equal = rw (g, g′)
+    found-equal : answersOf w m p q query ≡ answersOf w m p′ q′ query
+    unfolding answersOf
+    found-equal = below-equal (nameCount w)
 
-  answer-equal : answer (withThreshold p q a) ≡ answer a
-  unfolding searchOf
-  answer-equal = rw (refusal-equal, good-equal)
+  module _ (query : List ℕ) (allowance room : ℕ) where
+    -- the answer, from what it depends on
+    answerFrom : ℕ → List ℕ → Threshold → Answer
+    answerFrom steps found t =
+        cond (ltb allowance steps) (Refused 7 allowance) (cond (ltb room (length found)) (Refused 8 steps) (Found (length found) steps (t .p) (t .q)))
 
-pub fractions : (a : Question) → Fractions a
-fractions a p q low mid high low′ mid′ high′ e =
-    let g = facts-threshold (a .p) (a .q) low mid high in
-    let g′ = facts-threshold p q low′ mid′ high′ in
-    let s = answer-equal a p q g g′ e (lowest-equal (a .p) (a .q) p q (omega arith) (omega arith) e) in
-    let f = sym (found-equal (a .words) (a .measure) (a .p) (a .q) p q g g′ e (featuresOf (a .query))) in (
-      s,
-      ap₂ (λ (r : Answer) (l : List ℕ). over (idColumn (a .words) (givenBy r l)) (a .ids)) s f,
-      ap₂ (λ (r : Answer) (l : List ℕ). over (sharedColumn (a .words) (featuresOf (a .query)) (givenBy r l)) (a .shared)) s f,
-      ap₂ (λ (r : Answer) (l : List ℕ). over (sizeColumn (a .words) (givenBy r l)) (a .sizes)) s f,
-    )
+    good-equal : searchGoodOf query m p q allowance w room ≡ searchGoodOf query m p′ q′ allowance w room
+    unfolding searchGoodOf answerFrom
+    good-equal =
+        ap₂ (λ (n : ℕ) (l : List ℕ). answerFrom n l (lowestTerms p q)) (steps-equal (featuresOf query)) (found-equal (featuresOf query))
+        ∙ ap (answerFrom (touchesOf w m p′ q′ (featuresOf query)) (answersOf w m p′ q′ (featuresOf query))) one
+
+    refusal-equal : refusalOf query m p q w ≡ refusalOf query m p′ q′ w
+    unfolding refusalOf questionOf
+    refusal-equal = rw (g, g′)
+
+    answer-equal : searchOf query m p q allowance w room ≡ searchOf query m p′ q′ allowance w room
+    unfolding searchOf
+    answer-equal = rw (refusal-equal, good-equal)
+
+    -- whatever is made of an answer and of the places that it gives is the same
+    made-equal : {B : Type 0} (f : Answer → List ℕ → B)
+        → f (searchOf query m p q allowance w room) (givenBy (searchOf query m p q allowance w room) (answersOf w m p q (featuresOf query)))
+        ≡ f (searchOf query m p′ q′ allowance w room) (givenBy (searchOf query m p′ q′ allowance w room) (answersOf w m p′ q′ (featuresOf query)))
+    made-equal f = ap₂ (λ (r : Answer) (l : List ℕ). f r (givenBy r l)) answer-equal (found-equal (featuresOf query))
+
+same-fraction : {A : Type 0} (s : Lending A) (a : Question A) → SameFraction A s a
+same-fraction {A} s a p q good good′ e = (
+  sym (answer-equal (a .words) (a .measure) (a .p) (a .q) p q good good′ e (a .query) (a .allowance) (s .room (a .lent))),
+  sym (made-equal (a .words) (a .measure) (a .p) (a .q) p q good good′ e (a .query) (a .allowance) (s .room (a .lent))
+      {B = A} (λ r places. s .written (a .words) (featuresOf (a .query)) places (a .lent))),
+)
+
+pub fractions : Fractions
+fractions = (same-fraction columns, same-fraction records)
+
+-- ---- in frames
+
+-- the lines of an answer, from the places that it gives
+linesFrom : List ℕ → List ℕ → Answer → List ℕ → List ℕ
+linesFrom w query r places = answerText r (idColumn w places) (sharedColumn w (featuresOf query) places) (sizeColumn w places)
+
+-- a 51 line that was written is answered by the search that its fields and its query ask for
+answer-line : (w query : List ℕ) (m p q allowance : ℕ) → Bytes query → length query ≤ 255 → m < 256 → allowance < 4294967296 → GoodThreshold p q
+    → answerOf w (lineOf queryFrame (m ∷ p ∷ q ∷ allowance ∷ []) query)
+    ≡ linesFrom w query (searchOf query m p q allowance w rowsLent)
+    (givenBy (searchOf query m p q allowance w rowsLent) (answersOf w m p q (featuresOf query)))
+unfolding answerOf linesFrom
+answer-line w query m p q allowance b n i k good =
+    let f : List ℕ = m ∷ p ∷ q ∷ allowance ∷ [] in
+    let mid = good .1 in
+    let high = good .2 in
+    let fits : Fitting queryFrame f query = fitting-named queryFrame f query refl (omega arith) (i, (omega arith, (omega arith, (k, tt)))) b n in
+    rw (frame-written queryFrame f query fits, fields-written queryFrame f query fits, name-written queryFrame f query fits)
+
+pub same-frames : SameFrames
+same-frames w query m p q p′ q′ allowance b n i k good good′ e =
+    answer-line w query m p q allowance b n i k good
+    ∙ made-equal w m p q p′ q′ good good′ e query allowance rowsLent (linesFrom w query)
+    ∙ sym (answer-line w query m p′ q′ allowance b n i k good′)

@@ -1,4 +1,4 @@
--- The frames and the program: specs/Demands.antt says what, this file cites why.
+-- The program: specs/Demands.antt says what, this file cites why.
 -- Assumes nothing.
 use mathlib.Core.Path.{_≡_, refl, sym, ap, _∙_}
 use mathlib.Core.List.{List}
@@ -8,29 +8,12 @@ use lib.ListN.{length, take, drop, replicate, length-replicate}
 use lib.Dec.{ltb}
 use borrow.Author.Tests.{lt-ltb, le-ltb}
 use Rattle.index.specs.Good.{Good}
-use Rattle.frames.proofs.Five.{read-write-name, read-write-query, read-write-row, read-write-end, read-write-refusal, write-read-name, write-read-query, write-read-row, write-read-end, write-read-refusal, layout-unique}
 use Rattle.register.specs.Build.{builtOf}
 use Rattle.answers.specs.declared.Opened.{Opened}
 use Rattle.answers.specs.Output.{mostInput, registerEnd, programWords, openedOf, openWords, refusalLine, outputOf}
 use Rattle.answers.proofs.Input.{opened-good}
 use Rattle.answers.proofs.Responding.{output-opened, output-refused}
-use Rattle.statements.specs.Demands.{Frames, Program}
-
-pub frames : Frames
-frames =
-    record {
-      name-back = read-write-name;
-      query-back = read-write-query;
-      row-back = read-write-row;
-      end-back = read-write-end;
-      refusal-back = read-write-refusal;
-      name-again = write-read-name;
-      query-again = write-read-query;
-      row-again = write-read-row;
-      end-again = write-read-end;
-      refusal-again = write-read-refusal;
-      one-kind = layout-unique;
-    }
+use Rattle.statements.specs.Demands.{Program}
 
 opened-much : (input : List ℕ) → mostInput < length input → openedOf input programWords .number ≡ 8
 unfolding openedOf

@@ -1,11 +1,14 @@
--- The demands on a search, in full: what a reader has to believe, and nothing of how it is shown. Shown in proofs/Demands.antt.
--- The function `search` answers `answer` and leaves `idsAfter`, `sharedAfter` and `sizesAfter`, for every input, by its contract.
+-- The demands on a search, in full: what a reader has to believe, and nothing of how it is shown. What each demand assumes stands here too:
+-- `Searches`, `Fractions`, `SameFrames`, `Beyond`, `Builds`, `EndToEnd` and `Frames` are types with nothing left open, and each is proved as it
+-- stands by a theorem of proofs/.
+-- The functions `search` and `search_rows` answer `answer` and leave `after`, for every input, by their contracts; the first is lent `columns`,
+-- the second `records`, and all that is said of a search is said of both.
 -- A list of bytes is a list of numbers below 256; every lent slice of bytes is one.
 -- Assumes nothing.
 use mathlib.Core.Path.{_≡_}
 use mathlib.Core.Logic.{_↔_}
 use mathlib.Core.Bool.{Bool, true, false, cond, not}
-use mathlib.Core.List.{List, [], _∷_, map}
+use mathlib.Core.List.{List, [], _∷_, _++_, map}
 use Prim.Native.Nat.{ℕ, _+_, _-_, _*_, _≤_, _<_}
 use lib.ListN.{length, getD, take, drop, replicate}
 use lib.Dec.{eqb, leb, ltb}
@@ -18,11 +21,11 @@ use Rattle.likeness.specs.Sizes.{isSearched}
 use Rattle.likeness.specs.Least.{leastCount}
 use Rattle.likeness.specs.Fractions.{FractionLe, numerator, denominator, raised}
 use Rattle.likeness.specs.Terms.{lowestTerms}
-use Rattle.words.specs.Words.{nameCount, nameId, nameSize}
+use Rattle.words.specs.Words.{nameCount, nameId, nameSize, total}
 use Rattle.index.specs.Good.{goodOf, Good}
 use Rattle.postings.specs.Built.{wordsOf}
 use Rattle.lists.specs.Lists.{listIn, featuresIn}
-use Rattle.layouts.specs.Layouts.{isFrame, nameIn, lineOf, readOf}
+use Rattle.layouts.specs.Layouts.{isFrame, nameIn, lineOf, readOf, bufferOf}
 use Rattle.frames.specs.Frames.{nameFrame, queryFrame, rowFrame, endFrame, refusalFrame, layouts, nameOut, queryOut, rowOut, endOut, refusalOut}
 use Rattle.frames.specs.declared.NameRead.{NameRead}
 use Rattle.frames.specs.declared.QueryRead.{QueryRead}
@@ -35,55 +38,100 @@ use Rattle.candidates.specs.Method.{signatures, signaturePostings}
 use Rattle.search.specs.Method.{namesOf, listsFor, remaining, touchesOfSize, touchesOf, answersOf}
 use Rattle.search.specs.Answers.{numberIn, rowsIn, touchesIn, thresholdP, thresholdQ, searchOf, givenBy, roomOf, over, idColumn, sharedColumn, sizeColumn}
 use Rattle.search.specs.declared.Answer.{Answer}
+use Rattle.rows.specs.Rows.{rowsOf, overRows}
+use Rattle.rows.specs.declared.Row.{Row as Record}
+use Rattle.answers.specs.Output.{answerOf}
 use Rattle.answers.specs.Output.{mostInput, registerEnd, programWords, openedOf, openWords, lineText, refusalLine, answersText, outputOf}
+
+-- ---- rows that are lent
+
+-- three columns, as they are lent to `search`
+pub record Columns : Type 0 where
+  pub ids : List ℕ
+  pub shared : List ℕ
+  pub sizes : List ℕ
+
+-- a way to lend rows; A is what is lent
+pub record Lending (A : Type 0) : Type 0 where
+  -- how many rows there is room for
+  pub room : A → ℕ
+  -- the ids, the shared counts and the sizes that stand there, row by row
+  pub ids : A → List ℕ
+  pub shared : A → List ℕ
+  pub sizes : A → List ℕ
+  -- what stands behind the first n rows
+  pub behind : ℕ → A → A
+  -- what stands there once the rows of some names are written: of the words, the query's features and the names' places among the names
+  pub written : List ℕ → List ℕ → List ℕ → A → A
+
+-- three columns have room for as many rows as the shortest
+abbrev pub columns : Lending Columns
+columns =
+    record {
+      room = λ (c : Columns). roomOf (c .ids) (c .shared) (c .sizes);
+      ids = λ (c : Columns). c .ids;
+      shared = λ (c : Columns). c .shared;
+      sizes = λ (c : Columns). c .sizes;
+      behind = λ (n : ℕ) (c : Columns). record { ids = drop n (c .ids); shared = drop n (c .shared); sizes = drop n (c .sizes) };
+      written = λ (w query places : List ℕ) (c : Columns).
+          record {
+            ids = over (idColumn w places) (c .ids);
+            shared = over (sharedColumn w query places) (c .shared);
+            sizes = over (sizeColumn w places) (c .sizes);
+          };
+    }
+
+-- a list of records, as it is lent to `search_rows`, has room for as many rows as it has records
+abbrev pub records : Lending (List Record)
+records =
+    record {
+      room = λ (l : List Record). length l;
+      ids = λ (l : List Record). map (λ (r : Record). r .id) l;
+      shared = λ (l : List Record). map (λ (r : Record). r .shared) l;
+      sizes = λ (l : List Record). map (λ (r : Record). r .size) l;
+      behind = λ (n : ℕ) (l : List Record). drop n l;
+      written = λ (w query places : List ℕ) (l : List Record). overRows (rowsOf w query places) l;
+    }
 
 -- ---- a search
 
 -- everything that a search is given
-pub record Question : Type 0 where
+pub record Question (A : Type 0) : Type 0 where
   pub query : List ℕ
   pub measure : ℕ
   pub p : ℕ
   pub q : ℕ
   pub allowance : ℕ
   pub words : List ℕ
-  pub ids : List ℕ
-  pub shared : List ℕ
-  pub sizes : List ℕ
+  pub lent : A
+
+-- a statement of every question, with columns and with records
+abbrev pub Every : ((A : Type 0) → Lending A → Question A → Type 0) → Type 0
+Every P = ((a : Question Columns) → P Columns columns a) × ((a : Question (List Record)) → P (List Record) records a)
 
 -- the query is bytes
 abbrev pub Bytes : List ℕ → Type 0
 Bytes s = (j : ℕ) → getD s j 0 < characters
 
--- the room for rows: the least of the three lent lengths
-abbrev pub room : Question → ℕ
-room a = roomOf (a .ids) (a .shared) (a .sizes)
-
 -- the answer
-abbrev pub answer : Question → Answer
-answer a = searchOf (a .query) (a .measure) (a .p) (a .q) (a .allowance) (a .words) (room a)
+abbrev pub answer : {A : Type 0} → Lending A → Question A → Answer
+answer s a = searchOf (a .query) (a .measure) (a .p) (a .q) (a .allowance) (a .words) (s .room (a .lent))
 
 -- its number; 0 where it is answered
-abbrev pub number : Question → ℕ
-number a = numberIn (answer a)
+abbrev pub number : {A : Type 0} → Lending A → Question A → ℕ
+number s a = numberIn (answer s a)
 
 -- the steps of the method on these words, counted
-abbrev pub steps : Question → ℕ
+abbrev pub steps : {A : Type 0} → Question A → ℕ
 steps a = touchesOf (a .words) (a .measure) (a .p) (a .q) (featuresOf (a .query))
 
 -- the places among the names of those that the method lists
-abbrev pub found : Question → List ℕ
+abbrev pub found : {A : Type 0} → Question A → List ℕ
 found a = answersOf (a .words) (a .measure) (a .p) (a .q) (featuresOf (a .query))
 
--- the three lent columns afterwards
-abbrev pub idsAfter : Question → List ℕ
-idsAfter a = over (idColumn (a .words) (givenBy (answer a) (found a))) (a .ids)
-
-abbrev pub sharedAfter : Question → List ℕ
-sharedAfter a = over (sharedColumn (a .words) (featuresOf (a .query)) (givenBy (answer a) (found a))) (a .shared)
-
-abbrev pub sizesAfter : Question → List ℕ
-sizesAfter a = over (sizeColumn (a .words) (givenBy (answer a) (found a))) (a .sizes)
+-- what is lent, afterwards
+abbrev pub after : {A : Type 0} → Lending A → Question A → A
+after s a = s .written (a .words) (featuresOf (a .query)) (givenBy (answer s a) (found a)) (a .lent)
 
 -- ---- demand 1: a list or a numbered refusal
 
@@ -100,9 +148,9 @@ firstCase (c ∷ cs) = cond (c .applies) (c .number) (firstCase cs)
 abbrev pub case : ℕ → Bool → Case
 case n b = record { applies = b; number = n }
 
--- the refusals, in the order in which they are judged
-abbrev pub refusals : Question → List Case
-refusals a =
+-- the refusals, in the order in which they are judged: first those that are judged before the work is counted
+abbrev pub beforeWork : {A : Type 0} → Question A → List Case
+beforeWork a =
     case 1 (eqb (length (a .query)) 0)
     ∷ case 2 (ltb 64 (length (a .query)))
     ∷ case 3 (member 0 (a .query))
@@ -112,32 +160,52 @@ refusals a =
     ∷ case 5 (not (leb (a .p) (a .q)))
     ∷ case 5 (not (leb (a .q) 1000))
     ∷ case 6 (not (goodOf (a .words)))
-    ∷ case 7 (ltb (a .allowance) (steps a))
-    ∷ case 8 (ltb (room a) (length (found a)))
     ∷ []
 
--- the touches that go with a number
-abbrev pub touchesWith : Question → ℕ → ℕ
-touchesWith a n = cond (eqb n 0) (steps a) (cond (ltb n 7) 0 (cond (eqb n 7) (a .allowance) (steps a)))
+-- then those that the count and the list decide
+abbrev pub afterWork : {A : Type 0} → Lending A → Question A → List Case
+afterWork s a =
+    case 7 (ltb (a .allowance) (steps a))
+    ∷ case 8 (ltb (s .room (a .lent)) (length (found a)))
+    ∷ []
 
-pub record Demand1 (a : Question) : Type 0 where
+abbrev pub refusals : {A : Type 0} → Lending A → Question A → List Case
+refusals s a = beforeWork a ++ afterWork s a
+
+-- the question is answered: no refusal applies
+abbrev pub Answered : {A : Type 0} → Lending A → Question A → Type 0
+Answered s a = firstCase (refusals s a) ≡ 0
+
+-- the work of the question is counted: no refusal applies that is judged before that
+abbrev pub Counted : {A : Type 0} → Question A → Type 0
+Counted a = firstCase (beforeWork a) ≡ 0
+
+-- the question is refused before its work is counted
+abbrev pub RefusedBefore : {A : Type 0} → Lending A → Question A → Type 0
+RefusedBefore s a = (number s a ≡ firstCase (beforeWork a)) × (number s a ≡ 0 → ⊥)
+
+-- the touches that go with a number: with an answer and with 8 all steps, with 7 the allowance, with any other none
+abbrev pub touchesWith : {A : Type 0} → Question A → ℕ → ℕ
+touchesWith a n = cond (eqb n 0) (steps a) (cond (eqb n 8) (steps a) (cond (eqb n 7) (a .allowance) 0))
+
+pub record Demand1 {A : Type 0} (s : Lending A) (a : Question A) : Type 0 where
   -- every question has its number, and it is the first that the table has for it
-  pub judged : number a ≡ firstCase (refusals a)
-  -- before 7 no touches are reported, with 7 the allowance, with 8 and with an answer all of them
-  pub touched : touchesIn (answer a) ≡ touchesWith a (number a)
+  pub judged : number s a ≡ firstCase (refusals s a)
+  -- the touches that are reported are those that go with it
+  pub touched : touchesIn (answer s a) ≡ touchesWith a (number s a)
   -- a refusal reports no rows, and the threshold as 0/0
-  pub nothing : (number a ≡ 0 → ⊥) → (rowsIn (answer a) ≡ 0) × (thresholdP (answer a) ≡ 0) × (thresholdQ (answer a) ≡ 0)
-  -- and writes none: every lent entry is what it was
-  pub kept : (number a ≡ 0 → ⊥) → (idsAfter a ≡ a .ids) × (sharedAfter a ≡ a .shared) × (sizesAfter a ≡ a .sizes)
+  pub nothing : (number s a ≡ 0 → ⊥) → (rowsIn (answer s a) ≡ 0) × (thresholdP (answer s a) ≡ 0) × (thresholdQ (answer s a) ≡ 0)
+  -- and writes none: all that is lent is what it was
+  pub kept : (number s a ≡ 0 → ⊥) → after s a ≡ a .lent
 
 -- ---- demand 2: listed exactly if similar
 
 -- how many of the query's features the name at place i stands for
-abbrev pub sharedBy : Question → ℕ → ℕ
+abbrev pub sharedBy : {A : Type 0} → Question A → ℕ → ℕ
 sharedBy a i = sharedOf (featuresOf (a .query)) (featuresIn (a .words) (nameId (a .words) i))
 
 -- the similarity of sizes x and y with c shared features reaches the threshold, as exact fractions; the cosine by squares
-abbrev pub Reaches : Question → ℕ → ℕ → ℕ → Type 0
+abbrev pub Reaches : {A : Type 0} → Question A → ℕ → ℕ → ℕ → Type 0
 Reaches a x y c =
     FractionLe
     (raised (measureOf (a .measure)) (a .p))
@@ -146,36 +214,35 @@ Reaches a x y c =
     (denominator (measureOf (a .measure)) x y c)
 
 -- the ids of the rows
-abbrev pub rowIds : Question → List ℕ
-rowIds a = take (rowsIn (answer a)) (idsAfter a)
+abbrev pub rowIds : {A : Type 0} → Lending A → Question A → List ℕ
+rowIds s a = take (rowsIn (answer s a)) (s .ids (after s a))
 
-pub record Demand2 (a : Question) : Type 0 where
+pub record Demand2 {A : Type 0} (s : Lending A) (a : Question A) : Type 0 where
   -- a name of the index is listed exactly if its similarity reaches the threshold
   pub exactly : (i : ℕ) → i < nameCount (a .words)
-      → (member (nameId (a .words) i) (rowIds a) ≡ true)
+      → (member (nameId (a .words) i) (rowIds s a) ≡ true)
       ↔ Reaches a (length (featuresOf (a .query))) (nameSize (a .words) i) (sharedBy a i)
   -- each row is a name's, with its true shared count and size
-  pub true-rows : (j : ℕ) → j < rowsIn (answer a)
+  pub true-rows : (j : ℕ) → j < rowsIn (answer s a)
       → (i : ℕ)
       × (i < nameCount (a .words))
-      × (getD (idsAfter a) j 0 ≡ nameId (a .words) i)
-      × (getD (sharedAfter a) j 0 ≡ sharedBy a i)
-      × (getD (sizesAfter a) j 0 ≡ nameSize (a .words) i)
+      × (getD (s .ids (after s a)) j 0 ≡ nameId (a .words) i)
+      × (getD (s .shared (after s a)) j 0 ≡ sharedBy a i)
+      × (getD (s .sizes (after s a)) j 0 ≡ nameSize (a .words) i)
   -- by ascending id, and so once each
-  pub ascending : Ascending (rowIds a)
-  -- within the room
-  pub fits : rowsIn (answer a) ≤ room a
+  pub ascending : Ascending (rowIds s a)
+  -- as many as the answer says, and within the room
+  pub rows : length (rowIds s a) ≡ rowsIn (answer s a)
+  pub fits : rowsIn (answer s a) ≤ s .room (a .lent)
   -- what is lent beyond the rows is as it was
-  pub beyond : (drop (rowsIn (answer a)) (idsAfter a) ≡ drop (rowsIn (answer a)) (a .ids))
-      × (drop (rowsIn (answer a)) (sharedAfter a) ≡ drop (rowsIn (answer a)) (a .shared))
-      × (drop (rowsIn (answer a)) (sizesAfter a) ≡ drop (rowsIn (answer a)) (a .sizes))
+  pub beyond : s .behind (rowsIn (answer s a)) (after s a) ≡ s .behind (rowsIn (answer s a)) (a .lent)
   -- the threshold is reported in lowest terms
-  pub lowest : (thresholdP (answer a) ≡ lowestTerms (a .p) (a .q) .p) × (thresholdQ (answer a) ≡ lowestTerms (a .p) (a .q) .q)
+  pub lowest : (thresholdP (answer s a) ≡ lowestTerms (a .p) (a .q) .p) × (thresholdQ (answer s a) ≡ lowestTerms (a .p) (a .q) .q)
 
 -- ---- demand 3: the work
 
 -- the same question with another allowance
-abbrev pub withAllowance : ℕ → Question → Question
+abbrev pub withAllowance : {A : Type 0} → ℕ → Question A → Question A
 withAllowance n a =
     record {
       query = a .query;
@@ -184,36 +251,30 @@ withAllowance n a =
       q = a .q;
       allowance = n;
       words = a .words;
-      ids = a .ids;
-      shared = a .shared;
-      sizes = a .sizes;
+      lent = a .lent;
     }
 
 -- the least count at size y, the lists of the query's features there in their order, the signature postings S and the candidates C
-abbrev pub leastAt : Question → ℕ → ℕ
+abbrev pub leastAt : {A : Type 0} → Question A → ℕ → ℕ
 leastAt a y = leastCount (a .measure) (a .p) (a .q) (length (featuresOf (a .query))) y
 
-abbrev pub listsAt : Question → ℕ → List (List ℕ)
+abbrev pub listsAt : {A : Type 0} → Question A → ℕ → List (List ℕ)
 listsAt a y = listsFor (a .words) y (featuresOf (a .query))
 
-abbrev pub postingsAt : Question → ℕ → ℕ
+abbrev pub postingsAt : {A : Type 0} → Question A → ℕ → ℕ
 postingsAt a y = signaturePostings (listsAt a y) (leastAt a y)
 
-abbrev pub candidatesAt : Question → ℕ → ℕ
+abbrev pub candidatesAt : {A : Type 0} → Question A → ℕ → ℕ
 candidatesAt a y = remaining (a .words) y (listsAt a y) (leastAt a y) 0
 
--- of a question that is not refused before 7
-pub record Demand3 (a : Question) : Type 0 where
+pub record Demand3 {A : Type 0} (s : Lending A) (a : Question A) : Type 0 where
   -- 7 comes exactly when the allowance is below the count of the method's steps
-  pub seven : (number a ≡ 7) ↔ (a .allowance < steps a)
+  pub seven : (number s a ≡ 7) ↔ (a .allowance < steps a)
   -- an answer reports that count
-  pub counted : number a ≡ 0 → touchesIn (answer a) ≡ steps a
+  pub counted : number s a ≡ 0 → touchesIn (answer s a) ≡ steps a
   -- a larger allowance never alters an answer or a list
-  pub larger : (n : ℕ) → a .allowance ≤ n → number a ≡ 0
-      → (answer (withAllowance n a) ≡ answer a)
-      × (idsAfter (withAllowance n a) ≡ idsAfter a)
-      × (sharedAfter (withAllowance n a) ≡ sharedAfter a)
-      × (sizesAfter (withAllowance n a) ≡ sizesAfter a)
+  pub larger : (n : ℕ) → a .allowance ≤ n → number s a ≡ 0
+      → (answer s (withAllowance n a) ≡ answer s a) × (after s (withAllowance n a) ≡ after s a)
   -- a searched size costs at most S + C·(t − 1), which is at most x times the names of that size; any other costs nothing
   pub a-size : (y : ℕ) → 0 < y → isSearched (a .measure) (a .p) (a .q) (length (featuresOf (a .query))) y ≡ true
       → (touchesOfSize (a .words) (a .measure) (a .p) (a .q) (featuresOf (a .query)) y
@@ -229,10 +290,24 @@ pub record Demand3 (a : Question) : Type 0 where
       → countOf chosen (featuresOf (a .query)) ≡ signatures (length (featuresOf (a .query))) (leastAt a y)
       → postingsAt a y ≤ sumOf (map (λ (f : ℕ). length (listIn (a .words) y f)) (filterOf chosen (featuresOf (a .query))))
 
+-- ---- the three together
+
+pub record Demands (A : Type 0) (s : Lending A) (a : Question A) : Type 0 where
+  -- of every question
+  pub one : Demand1 s a
+  -- of an answered one, whose query is bytes
+  pub two : Bytes (a .query) → Answered s a → Demand2 s a
+  -- of one whose work is counted, whose query is bytes
+  pub three : Bytes (a .query) → Counted a → Demand3 s a
+
+-- proved by `searches`
+abbrev pub Searches : Type 0
+Searches = Every Demands
+
 -- ---- equal fractions
 
 -- the same question with another threshold
-abbrev pub withThreshold : ℕ → ℕ → Question → Question
+abbrev pub withThreshold : {A : Type 0} → ℕ → ℕ → Question A → Question A
 withThreshold p q a =
     record {
       query = a .query;
@@ -241,18 +316,53 @@ withThreshold p q a =
       q = q;
       allowance = a .allowance;
       words = a .words;
-      ids = a .ids;
-      shared = a .shared;
-      sizes = a .sizes;
+      lent = a .lent;
     }
 
+-- a threshold that is not refused
+abbrev pub GoodThreshold : ℕ → ℕ → Type 0
+GoodThreshold p q = (1 ≤ p) × (p ≤ q) × (q ≤ 1000)
+
 -- two good thresholds that are one fraction give one answer and one list
-abbrev pub Fractions : Question → Type 0
-Fractions a = (p q : ℕ) → 1 ≤ a .p → a .p ≤ a .q → a .q ≤ 1000 → 1 ≤ p → p ≤ q → q ≤ 1000 → a .p * q ≡ p * a .q
-    → (answer (withThreshold p q a) ≡ answer a)
-    × (idsAfter (withThreshold p q a) ≡ idsAfter a)
-    × (sharedAfter (withThreshold p q a) ≡ sharedAfter a)
-    × (sizesAfter (withThreshold p q a) ≡ sizesAfter a)
+abbrev pub SameFraction : (A : Type 0) → Lending A → Question A → Type 0
+SameFraction A s a = (p q : ℕ) → GoodThreshold (a .p) (a .q) → GoodThreshold p q → a .p * q ≡ p * a .q
+    → (answer s (withThreshold p q a) ≡ answer s a) × (after s (withThreshold p q a) ≡ after s a)
+
+-- proved by `fractions`
+abbrev pub Fractions : Type 0
+Fractions = Every SameFraction
+
+-- and one answer in frames: two 51 lines that differ in the threshold alone, and there not in the fraction, are answered with the same lines,
+-- from any words. Proved by `same-frames`
+abbrev pub SameFrames : Type 0
+SameFrames = (words query : List ℕ) (measure p q p′ q′ allowance : ℕ) → Bytes query → length query ≤ 255 → measure < 256 → allowance < 4294967296
+    → GoodThreshold p q → GoodThreshold p′ q′ → p * q′ ≡ p′ * q
+    → answerOf words (lineOf queryFrame (measure ∷ p ∷ q ∷ allowance ∷ []) query)
+    ≡ answerOf words (lineOf queryFrame (measure ∷ p′ ∷ q′ ∷ allowance ∷ []) query)
+
+-- ---- words beyond the total
+
+-- the same question, asked of other words
+abbrev pub withWords : {A : Type 0} → List ℕ → Question A → Question A
+withWords words a =
+    record {
+      query = a .query;
+      measure = a .measure;
+      p = a .p;
+      q = a .q;
+      allowance = a .allowance;
+      words = words;
+      lent = a .lent;
+    }
+
+-- words that agree on the first 3 + N + 4D + P give one answer and one list, whatever stands beyond those
+abbrev pub SameWords : (A : Type 0) → Lending A → Question A → Type 0
+SameWords A s a = (other : List ℕ) → total (a .words) ≤ length other → take (total (a .words)) (a .words) ≡ take (total (a .words)) other
+    → (answer s (withWords other a) ≡ answer s a) × (after s (withWords other a) ≡ after s a)
+
+-- proved by `beyond`
+abbrev pub Beyond : Type 0
+Beyond = Every SameWords
 
 -- ---- a build
 
@@ -261,19 +371,8 @@ abbrev pub Accepted : List ℕ → List ℕ → Type 0
 Accepted register words = builtOf register (length words) .number ≡ 0
 
 -- the same question, asked of the words that a build leaves
-abbrev pub ofBuilt : List ℕ → List ℕ → Question → Question
-ofBuilt register words a =
-    record {
-      query = a .query;
-      measure = a .measure;
-      p = a .p;
-      q = a .q;
-      allowance = a .allowance;
-      words = wordsAfter register words;
-      ids = a .ids;
-      shared = a .shared;
-      sizes = a .sizes;
-    }
+abbrev pub ofBuilt : {A : Type 0} → List ℕ → List ℕ → Question A → Question A
+ofBuilt register words a = withWords (wordsAfter register words) a
 
 -- line i of the register, from 0, is judged behind the lines before it: 11, 1, 2, 3, 9, 10 in that order, or 0
 pub record Building (register words : List ℕ) : Type 0 where
@@ -293,36 +392,45 @@ pub record Building (register words : List ℕ) : Type 0 where
       → nameSize (wordsAfter register words) i ≡ length (featuresOf (nameOf (nthLine register i)))
   pub features : Accepted register words → (i f : ℕ) → i < length (linesOf register)
       → member f (featuresIn (wordsAfter register words) (idIn (nthLine register i))) ≡ member f (featuresOf (nameOf (nthLine register i)))
-  -- a refused build sets every word, and every search of those words is refused, with a number before 7
+  -- a refused build sets every word, and every search of those words is refused before its work is counted
   pub every-word : (Accepted register words → ⊥) → wordsAfter register words ≡ replicate (length words) 4294967295
-  pub refused : (Accepted register words → ⊥) → (a : Question) → (1 ≤ number (ofBuilt register words a)) × (number (ofBuilt register words a) ≤ 6)
+  pub refused : (Accepted register words → ⊥) → Every (λ A s a. RefusedBefore s (ofBuilt register words a))
+
+-- proved by `builds`
+abbrev pub Builds : Type 0
+Builds = (register words : List ℕ) → Building register words
 
 -- ---- end to end
 
 -- how many of the query's features the name of line i has
-abbrev pub sharedWithLine : List ℕ → Question → ℕ → ℕ
+abbrev pub sharedWithLine : {A : Type 0} → List ℕ → Question A → ℕ → ℕ
 sharedWithLine register a i = sharedOf (featuresOf (a .query)) (featuresOf (nameOf (nthLine register i)))
 
--- an answered search of a register's index: listed are exactly the register's names that are similar by their own features
-pub record EndToEnd (register words : List ℕ) (a : Question) : Type 0 where
+-- listed are exactly the register's names that are similar by their own features
+pub record Listing {A : Type 0} (s : Lending A) (register words : List ℕ) (a : Question A) : Type 0 where
   pub exactly : (i : ℕ) → i < length (linesOf register)
-      → (member (idIn (nthLine register i)) (rowIds (ofBuilt register words a)) ≡ true)
+      → (member (idIn (nthLine register i)) (rowIds s (ofBuilt register words a)) ≡ true)
       ↔ Reaches a (length (featuresOf (a .query))) (length (featuresOf (nameOf (nthLine register i)))) (sharedWithLine register a i)
-  pub true-rows : (j : ℕ) → j < rowsIn (answer (ofBuilt register words a))
+  pub true-rows : (j : ℕ) → j < rowsIn (answer s (ofBuilt register words a))
       → (i : ℕ)
       × (i < length (linesOf register))
-      × (getD (idsAfter (ofBuilt register words a)) j 0 ≡ idIn (nthLine register i))
-      × (getD (sharedAfter (ofBuilt register words a)) j 0 ≡ sharedWithLine register a i)
-      × (getD (sizesAfter (ofBuilt register words a)) j 0 ≡ length (featuresOf (nameOf (nthLine register i))))
-  pub ascending : Ascending (rowIds (ofBuilt register words a))
+      × (getD (s .ids (after s (ofBuilt register words a))) j 0 ≡ idIn (nthLine register i))
+      × (getD (s .shared (after s (ofBuilt register words a))) j 0 ≡ sharedWithLine register a i)
+      × (getD (s .sizes (after s (ofBuilt register words a))) j 0 ≡ length (featuresOf (nameOf (nthLine register i))))
+  pub ascending : Ascending (rowIds s (ofBuilt register words a))
   -- equal names under two ids are listed both or neither
   pub twins : (i j : ℕ) → i < length (linesOf register) → j < length (linesOf register) → nameOf (nthLine register i) ≡ nameOf (nthLine register j)
-      → (member (idIn (nthLine register i)) (rowIds (ofBuilt register words a)) ≡ true)
-      ↔ (member (idIn (nthLine register j)) (rowIds (ofBuilt register words a)) ≡ true)
+      → (member (idIn (nthLine register i)) (rowIds s (ofBuilt register words a)) ≡ true)
+      ↔ (member (idIn (nthLine register j)) (rowIds s (ofBuilt register words a)) ≡ true)
+
+-- so of every answered search of an accepted register's index: proved by `end-to-end`
+abbrev pub EndToEnd : Type 0
+EndToEnd = (register words : List ℕ)
+    → Every (λ A s a. Bytes (a .query) → Accepted register words → Answered s (ofBuilt register words a) → Listing s register words a)
 
 -- ---- the frames
 
--- what is written reads back, and a good line that was read is written again
+-- what is written reads back, and a good line that was read is written again: proved by `frames`
 pub record Frames : Type 0 where
   pub name-back : (id : ℕ) (name : List ℕ) (room : ℕ) → id < 65536 → Bytes name → length name ≤ 255 → length name ≤ room
       → readOf nameFrame (lineOf nameFrame (id ∷ []) name) room ≡ nameOut (record { number = 0; id = id; len = length name })
@@ -330,6 +438,12 @@ pub record Frames : Type 0 where
       → Bytes query → length query ≤ 255 → length query ≤ room
       → readOf queryFrame (lineOf queryFrame (measure ∷ p ∷ q ∷ allowance ∷ []) query) room
       ≡ queryOut (record { number = 0; measure = measure; p = p; q = q; allowance = allowance; len = length query })
+  -- and the lent buffer starts with the name or the query; what stood behind that is kept
+  pub name-buffer : (id : ℕ) (name buffer : List ℕ) → id < 65536 → Bytes name → length name ≤ 255 → length name ≤ length buffer
+      → bufferOf nameFrame (lineOf nameFrame (id ∷ []) name) buffer ≡ name ++ drop (length name) buffer
+  pub query-buffer : (measure p q allowance : ℕ) (query buffer : List ℕ) → measure < 256 → p < 65536 → q < 65536 → allowance < 4294967296
+      → Bytes query → length query ≤ 255 → length query ≤ length buffer
+      → bufferOf queryFrame (lineOf queryFrame (measure ∷ p ∷ q ∷ allowance ∷ []) query) buffer ≡ query ++ drop (length query) buffer
   pub row-back : (id shared size : ℕ) → id < 65536 → shared < 256 → size < 256
       → readOf rowFrame (lineOf rowFrame (id ∷ shared ∷ size ∷ []) []) 0 ≡ rowOut (Row id shared size)
   pub end-back : (rows touches p q : ℕ) → rows < 65536 → touches < 4294967296 → p < 65536 → q < 65536

@@ -1,18 +1,21 @@
 -- The worked figures of the rule, as one table: what the definitions give, and what it should be.
 -- Proved together in proofs/Figures.antt. A new figure is one more row here.
 -- Assumes nothing.
-use mathlib.Core.Bool.{Bool, true, false, _&&_, cond}
+use mathlib.Core.Path.{_≡_}
+use mathlib.Core.Bool.{Bool, true, _&&_, cond, not}
 use mathlib.Core.List.{List, [], _∷_}
 use Prim.Native.Nat.{ℕ}
 use lib.ListN.{length}
-use lib.Dec.{eqb}
+use lib.Dec.{eqb, leb}
+use Rattle.laws.specs.Below.{countBelow}
 use Rattle.names.specs.Features.{featuresOf}
 use Rattle.names.specs.Shared.{sharedOf}
 use Rattle.likeness.specs.Measures.{isSimilar}
 use Rattle.likeness.specs.Sizes.{isSearched}
 use Rattle.likeness.specs.Least.{leastCount}
+use Rattle.likeness.specs.Terms.{lowestTerms}
 use Rattle.postings.specs.Built.{Entry, wordsOf}
-use Rattle.search.specs.Method.{sharedWith, touchesOfSize, touchesOf, answersOf}
+use Rattle.search.specs.Method.{sizesEnd, sharedWith, touchesOfSize, touchesOf, answersOf}
 use Rattle.search.specs.Answers.{numberIn, searchOf}
 
 -- ---- the names of the figures
@@ -74,9 +77,20 @@ alike m p q x y s n = record { is = cond (isSimilar m p q x y s) 1 0; should = n
 abbrev pub least : ℕ → ℕ → ℕ → ℕ → ℕ → ℕ → Figure
 least m p q x y n = record { is = leastCount m p q x y; should = n }
 
--- 1 where size y is searched for a query of x features, 0 where it isn't
-abbrev pub searchedAt : ℕ → ℕ → ℕ → ℕ → ℕ → ℕ → Figure
-searchedAt m p q x y n = record { is = cond (isSearched m p q x y) 1 0; should = n }
+-- exactly the sizes from low to high are searched for a query of x features: how many sizes, of all up to 66, are judged otherwise
+abbrev pub searchedFrom : ℕ → ℕ → ℕ → ℕ → ℕ → ℕ → Figure
+searchedFrom m p q x low high =
+    record {
+      is = countBelow sizesEnd (λ (y : ℕ). not (eqb (cond (isSearched m p q x y) 1 0) (cond (leb low y && leb y high) 1 0)));
+      should = 0;
+    }
+
+-- the two numbers of a threshold in lowest terms
+abbrev pub lowestP : ℕ → ℕ → ℕ → Figure
+lowestP p q n = record { is = lowestTerms p q .p; should = n }
+
+abbrev pub lowestQ : ℕ → ℕ → ℕ → Figure
+lowestQ p q n = record { is = lowestTerms p q .q; should = n }
 
 -- the touches of one size, and of all
 abbrev pub touchesAtSize : List ℕ → ℕ → ℕ → ℕ → List ℕ → ℕ → ℕ → Figure
@@ -113,10 +127,9 @@ figures =
     ∷ alike 3 618 1000 6 7 4 0
     ∷ alike 4 2 3 6 7 4 1
     ∷ least 3 7 10 8 9 6
-    ∷ searchedAt 3 7 10 8 3 0
-    ∷ searchedAt 3 7 10 8 4 1
-    ∷ searchedAt 3 7 10 8 16 1
-    ∷ searchedAt 3 7 10 8 17 0
+    ∷ searchedFrom 3 7 10 8 4 16
+    ∷ lowestP 70 100 7
+    ∷ lowestQ 70 100 10
     ∷ lists acIndex 1 1 4 ab 1
     ∷ sharesAt acIndex ab 0 1
     ∷ touches acIndex 1 1 4 ab 1
@@ -132,3 +145,7 @@ figures =
 unfoldable pub allRight : List Figure → Bool
 allRight [] = true
 allRight (f ∷ l) = eqb (f .is) (f .should) && allRight l
+
+-- proved by `figures-right`
+abbrev pub FiguresRight : Type 0
+FiguresRight = allRight figures ≡ true

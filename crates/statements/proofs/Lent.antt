@@ -1,0 +1,74 @@
+-- What the demands take from a way to lend rows, and that columns and records have it: written rows are the columns of `search`, over what stood there.
+-- Assumes nothing.
+use mathlib.Core.Path.{_≡_, refl, sym, ap, ap₂, _∙_}
+use mathlib.Core.Bool.{true}
+use mathlib.Core.List.{List, [], _∷_, map}
+use Prim.Native.Nat.{ℕ}
+use lib.ListN.{length, drop, length-map}
+use lib.Seq.{drop-append-seam}
+use Rattle.laws.specs.Lists.{member}
+use Rattle.laws.proofs.Members.{member-head, member-tail}
+use Rattle.words.specs.Words.{nameId, nameSize}
+use Rattle.search.specs.Method.{sharedWith}
+use Rattle.search.specs.Answers.{over, idColumn, sharedColumn, sizeColumn}
+use Rattle.search.proofs.Listed.{over-beyond}
+use Rattle.rows.specs.Rows.{rowOf, rowsOf, overRows}
+use Rattle.rows.specs.declared.Row.{Row}
+use Rattle.rows.proofs.Laws.{over-ids, over-shared, over-sizes}
+use Rattle.statements.specs.Demands.{Lending, columns, records}
+
+pub record Lends {A : Type 0} (s : Lending A) : Type 0 where
+  pub ids : (w query places : List ℕ) (l : A) → s .ids (s .written w query places l) ≡ over (idColumn w places) (s .ids l)
+  pub shared : (w query places : List ℕ) (l : A) → s .shared (s .written w query places l) ≡ over (sharedColumn w query places) (s .shared l)
+  pub sizes : (w query places : List ℕ) (l : A) → s .sizes (s .written w query places l) ≡ over (sizeColumn w places) (s .sizes l)
+  pub behind : (w query places : List ℕ) (l : A) → s .behind (length places) (s .written w query places l) ≡ s .behind (length places) l
+  pub none : (w query : List ℕ) (l : A) → s .written w query [] l ≡ l
+  -- names with the same rows are written alike
+  pub alike : (w v query places : List ℕ) (l : A) → ((i : ℕ) → member i places ≡ true → rowOf w query i ≡ rowOf v query i)
+      → s .written w query places l ≡ s .written v query places l
+
+map-members : {B : Type 0} (f g : ℕ → B) (l : List ℕ) → ((x : ℕ) → member x l ≡ true → f x ≡ g x) → map f l ≡ map g l
+map-members f g [] e = refl
+map-members {B} f g (x ∷ l) e = ap₂ (λ (y : B) (k : List B). y ∷ k) (e x (member-head x l)) (map-members f g l (λ y m. e y (member-tail x y l m)))
+
+-- behind as many entries as there are places
+beyond : (f : ℕ → ℕ) (places l : List ℕ) → drop (length places) (over (map f places) l) ≡ drop (length places) l
+beyond f places l =
+    let n : length (map f places) ≡ length places = length-map places f in
+    ap (λ (m : ℕ). drop m (over (map f places) l)) (sym n) ∙ over-beyond (map f places) l ∙ ap (λ (m : ℕ). drop m l) n
+
+pub columns-lend : Lends columns
+columns-lend =
+    record {
+      ids = λ w query places l. refl;
+      shared = λ w query places l. refl;
+      sizes = λ w query places l. refl;
+      behind = λ w query places l t.
+          record {
+            ids = beyond (nameId w) places (l .ids) t;
+            shared = beyond (sharedWith w query) places (l .shared) t;
+            sizes = beyond (nameSize w) places (l .sizes) t;
+          };
+      none = λ w query l. refl;
+      alike = λ w v query places l e t.
+          record {
+            ids = over (map-members (nameId w) (nameId v) places (λ i m. ap (λ (r : Row). r .id) (e i m)) t) (l .ids);
+            shared = over (map-members (sharedWith w query) (sharedWith v query) places (λ i m. ap (λ (r : Row). r .shared) (e i m)) t) (l .shared);
+            sizes = over (map-members (nameSize w) (nameSize v) places (λ i m. ap (λ (r : Row). r .size) (e i m)) t) (l .sizes);
+          };
+    }
+
+pub records-lend : Lends records
+records-lend =
+    record {
+      ids = over-ids;
+      shared = over-shared;
+      sizes = over-sizes;
+      behind = λ w query places l.
+          let n : length (rowsOf w query places) ≡ length places = length-map places (rowOf w query) in
+          ap (λ (m : ℕ). drop m (records .written w query places l)) (sym n)
+          ∙ drop-append-seam (rowsOf w query places) (drop (length (rowsOf w query places)) l)
+          ∙ ap (λ (m : ℕ). drop m l) n;
+      none = λ w query l. refl;
+      alike = λ w v query places l e. ap (λ (rows : List Row). overRows rows l) (map-members (rowOf w query) (rowOf v query) places e);
+    }
