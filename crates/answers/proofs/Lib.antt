@@ -2,5 +2,7 @@ pub mod Input
 pub mod Text
 pub mod Asking
 pub mod Responding
+pub mod Cut
 pub mod Reading
 pub mod Pieces
+pub mod Ends

@@ -1,4 +1,4 @@
--- What an answer's lines say: cut at their line feeds they are one for each row and the end, and each reads back as what the search found.
+-- What an answer's lines say: each is one line, and reads back as what the search found.
 -- Assumes nothing.
 use mathlib.Core.Path.{_≡_, refl, sym, ap, ap₂, _∙_}
 use mathlib.Core.Logic.{⊎-elim}
@@ -33,13 +33,9 @@ use Rattle.search.proofs.Found.{refused-empty, Answered, answered}
 use Rattle.answers.specs.Output.{rowLine, endLine, refusalLine, rowsText, foundText, answerText, rowsLent, longestAnswer, queryIn, measureIn, pIn, qIn, allowanceIn, searchFor, placesFor, answerOf}
 use Rattle.answers.specs.Rows.{Shown}
 use Rattle.answers.proofs.Text.{length-found}
+use Rattle.answers.proofs.Cut.{NoFeed, Line}
 
 -- ---- a line feed stands at the end of a line alone
-
--- no element is a line feed; so of no elements
-abbrev NoFeed : List ℕ → Type 0
-NoFeed [] = Unit {0}
-NoFeed (b ∷ l) = (b ≡ lineFeed → ⊥) × NoFeed l
 
 digit-no-feed : (n : ℕ) → digitOf n ≡ lineFeed → ⊥
 unfolding digitOf
@@ -62,49 +58,15 @@ unfolding hexOf
 hex-no-feed [] = tt
 hex-no-feed (b ∷ s) = (digit-no-feed (b / 16), (digit-no-feed (b % 16), hex-no-feed s))
 
--- the first line of a line and more
-feed-cut : (l rest : List ℕ) → NoFeed l → linesOf ((l ++ (10 ∷ [])) ++ rest) ≡ (l ++ (10 ∷ [])) ∷ linesOf rest
-unfolding linesOf joinLine
-feed-cut [] rest n = refl
-feed-cut (b ∷ l) rest n = rw (ne-eqb b lineFeed (n .0)) (ap (joinLine b) (feed-cut l rest (n .1)))
-
-line-cut : (y : Layout) (f rest : List ℕ) → linesOf (lineOf y f [] ++ rest) ≡ lineOf y f [] ∷ linesOf rest
+-- so a frame's line is one
+pub one-line : (y : Layout) (f : List ℕ) → Line (lineOf y f [])
 unfolding lineOf hexLine
-line-cut y f rest =
-    feed-cut (hexOf (y .kind ∷ (fieldBytes (y .widths) f ++ nameBytes (y .named) []))) rest
-    (hex-no-feed (y .kind ∷ (fieldBytes (y .widths) f ++ nameBytes (y .named) [])))
-
-line-alone : (y : Layout) (f : List ℕ) → linesOf (lineOf y f []) ≡ lineOf y f [] ∷ []
-line-alone y f = ap linesOf (sym (append-nil (lineOf y f []))) ∙ line-cut y f [] ∙ ap (λ (ls : List (List ℕ)). lineOf y f [] ∷ ls) nothing
-  where
-    nothing : linesOf [] ≡ []
-    nothing = unfold linesOf in refl
-
--- ---- the lines of an answer
-
--- one line for each row, in order
-abbrev pub rowLines : List ℕ → List ℕ → List ℕ → ℕ → List (List ℕ)
-rowLines ids shared sizes n = tabulate (λ (k : ℕ). rowLine (getD ids k 0) (getD shared k 0) (getD sizes k 0)) n
-
-rows-cut : (ids shared sizes : List ℕ) (n : ℕ) (rest : List ℕ) → linesOf (rowsText ids shared sizes n ++ rest) ≡ rowLines ids shared sizes n ++ linesOf rest
-unfolding rowsText tabulate
-rows-cut ids shared sizes zero rest = refl
-rows-cut ids shared sizes (suc n) rest =
-    let l = rowLine (getD ids n 0) (getD shared n 0) (getD sizes n 0) in
-    ap linesOf (append-assoc (rowsText ids shared sizes n) l rest)
-    ∙ rows-cut ids shared sizes n (l ++ rest)
-    ∙ ap (λ (ls : List (List ℕ)). rowLines ids shared sizes n ++ ls) (line-cut rowFrame (getD ids n 0 ∷ getD shared n 0 ∷ getD sizes n 0 ∷ []) rest)
-    ∙ sym (append-assoc (rowLines ids shared sizes n) (l ∷ []) (linesOf rest))
-
-pub lines-found : (rows touches p q : ℕ) (ids shared sizes : List ℕ)
-    → linesOf (foundText rows touches p q ids shared sizes) ≡ rowLines ids shared sizes rows ++ (endLine rows touches p q ∷ [])
-unfolding foundText
-lines-found rows touches p q ids shared sizes =
-    rows-cut ids shared sizes rows (endLine rows touches p q)
-    ∙ ap (λ (ls : List (List ℕ)). rowLines ids shared sizes rows ++ ls) (line-alone endFrame (rows ∷ touches ∷ p ∷ q ∷ []))
-
-pub lines-refused : (number touches : ℕ) → linesOf (refusalLine number touches) ≡ refusalLine number touches ∷ []
-lines-refused number touches = line-alone refusalFrame (number ∷ touches ∷ [])
+one-line y f =
+    record {
+      text = hexOf (y .kind ∷ (fieldBytes (y .widths) f ++ nameBytes (y .named) []));
+      plain = hex-no-feed (y .kind ∷ (fieldBytes (y .widths) f ++ nameBytes (y .named) []));
+      ended = refl;
+    }
 
 -- ---- each line reads back
 

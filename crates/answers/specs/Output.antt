@@ -1,10 +1,11 @@
 -- What the program makes of an input, byte by byte: the register and its index, the lines of each answer, and all of the output.
 -- Assumes nothing.
-use mathlib.Core.Bool.{Bool, cond, _&&_}
+use mathlib.Core.Bool.{Bool, cond, _&&_, _||_}
 use mathlib.Core.List.{List, [], _∷_, _++_}
 use Prim.Native.Nat.{ℕ, zero, suc, _+_, _*_}
 use lib.ListN.{length, getD, take, drop, replicate}
 use lib.Dec.{eqb, leb, ltb}
+use Rattle.laws.specs.Lists.{tabulate}
 use Rattle.names.specs.Features.{featuresOf}
 use Rattle.layouts.specs.declared.Written.{Written}
 use Rattle.layouts.specs.Layouts.{isFrame, fieldsIn, nameIn, lineOf}
@@ -147,6 +148,23 @@ respondedOf w input at room =
       len = fittingOf (lineText w input at) room .len;
       next = at + lineLength (drop at input);
     }
+
+-- ---- lines of an output
+
+-- lists, one behind the other; nothing of no lists
+unfoldable pub joined : {A : Type 0} → List (List A) → List A
+joined [] = []
+joined (l ∷ ls) = l ++ joined ls
+
+-- whether a line is the last of an answer: a 45 or a 58 frame
+unfoldable pub endsAnswer : List ℕ → Bool
+endsAnswer l = isFrame endFrame l || isFrame refusalFrame l
+
+-- the lines of an answer with its rows in three columns: a 52 line for each row, in order, and a 45 line; or one 58 line
+unfoldable pub answerLines : Answer → List ℕ → List ℕ → List ℕ → List (List ℕ)
+answerLines (Found rows touches p q) ids shared sizes =
+    tabulate (λ (k : ℕ). rowLine (getD ids k 0) (getD shared k 0) (getD sizes k 0)) rows ++ (endLine rows touches p q ∷ [])
+answerLines (Refused number touches) ids shared sizes = refusalLine number touches ∷ []
 
 -- ---- the whole program
 

@@ -95,28 +95,36 @@ behind k n b true name e p =
     rw o (sym (drop-drop 1 n (b ++ t)) ∙ ap (λ (l : List ℕ). drop 1 l) (drop-at b t n e))
 behind k n b false name e p = sym (p refl)
 
-module _ (y : Layout) (f name : List ℕ) (h : Fitting y f name) where
-  written-bytes : Bytes (y .kind ∷ (fieldBytes (y .widths) f ++ nameBytes (y .named) name))
-  written-bytes zero = h .kind
-  written-bytes (suc k) =
+-- fields that do not fit their bytes are cut to them, so the line is a frame all the same
+module _ (y : Layout) (f name : List ℕ) (kind : y .kind < 256) (bytes : Bytes name) (short : length name ≤ 255) where
+  line-bytes : Bytes (y .kind ∷ (fieldBytes (y .widths) f ++ nameBytes (y .named) name))
+  line-bytes zero = kind
+  line-bytes (suc k) =
       append-bytes (fieldBytes (y .widths) f) (nameBytes (y .named) name) (field-bytes-bytes (y .widths) f)
-      (name-bytes-bytes (y .named) name (h .bytes) (h .short))
+      (name-bytes-bytes (y .named) name bytes short)
       k
 
   -- the bytes of the line are those that it was made of
-  bytes-written : bytesOf (lineOf y f name) ≡ y .kind ∷ (fieldBytes (y .widths) f ++ nameBytes (y .named) name)
+  bytes-line : bytesOf (lineOf y f name) ≡ y .kind ∷ (fieldBytes (y .widths) f ++ nameBytes (y .named) name)
   unfolding lineOf
-  bytes-written = bytes-hex _ written-bytes
+  bytes-line = bytes-hex _ line-bytes
 
-  well-formed-written : wellFormed (lineOf y f name) ≡ true
+  well-formed-line : wellFormed (lineOf y f name) ≡ true
   unfolding lineOf
-  well-formed-written = well-formed-hex _ written-bytes
+  well-formed-line = well-formed-hex _ line-bytes
+
+  pub frame-line : isFrame y (lineOf y f name) ≡ true
+  unfolding isFrame laidOut headSize nameSize
+  frame-line =
+      rw (well-formed-line, bytes-line, eq-eqb (y .kind) (y .kind) refl)
+      (eq-eqb _ _ (sized (y .kind) (sumOf (y .widths)) (fieldBytes (y .widths) f) (y .named) name (length-field-bytes (y .widths) f)))
+
+module _ (y : Layout) (f name : List ℕ) (h : Fitting y f name) where
+  bytes-written : bytesOf (lineOf y f name) ≡ y .kind ∷ (fieldBytes (y .widths) f ++ nameBytes (y .named) name)
+  bytes-written = bytes-line y f name (h .kind) (h .bytes) (h .short)
 
   pub frame-written : isFrame y (lineOf y f name) ≡ true
-  unfolding isFrame laidOut headSize nameSize
-  frame-written =
-      rw (well-formed-written, bytes-written, eq-eqb (y .kind) (y .kind) refl)
-      (eq-eqb _ _ (sized (y .kind) (sumOf (y .widths)) (fieldBytes (y .widths) f) (y .named) name (length-field-bytes (y .widths) f)))
+  frame-written = frame-line y f name (h .kind) (h .bytes) (h .short)
 
   pub fields-written : fieldsIn y (lineOf y f name) ≡ f
   unfolding fieldsIn

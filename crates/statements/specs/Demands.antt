@@ -41,7 +41,6 @@ use Rattle.search.specs.declared.Answer.{Answer}
 use Rattle.rows.specs.Rows.{rowsOf, overRows}
 use Rattle.rows.specs.declared.Row.{Row as Record}
 use Rattle.answers.specs.Output.{answerOf}
-use Rattle.answers.specs.Output.{mostInput, registerEnd, programWords, openedOf, openWords, lineText, refusalLine, answersText, outputOf}
 
 -- ---- rows that are lent
 
@@ -462,18 +461,3 @@ pub record Frames : Type 0 where
       → lineOf refusalFrame (number ∷ touches ∷ []) [] ≡ l
   -- no line is a frame of two kinds
   pub one-kind : (l : List ℕ) (i j : ℕ) → i < 5 → j < 5 → isFrame (getD layouts i rowFrame) l ≡ true → isFrame (getD layouts j rowFrame) l ≡ true → i ≡ j
-
--- ---- the program
-
-pub record Program (input : List ℕ) : Type 0 where
-  -- too much input is refused with 8 and 0 touches, whatever it holds
-  pub too-much : mostInput < length input → outputOf input ≡ refusalLine 8 0
-  -- a refused register gives one refusal with the build's number and 0 touches
-  pub register-refused : length input ≤ mostInput
-      → (builtOf (take (registerEnd input) input) programWords .number ≡ 0 → ⊥)
-      → outputOf input ≡ refusalLine (builtOf (take (registerEnd input) input) programWords .number) 0
-  -- otherwise the answers of the query lines, from the good index that the register is
-  pub answered : length input ≤ mostInput
-      → builtOf (take (registerEnd input) input) programWords .number ≡ 0
-      → (outputOf input ≡ answersText (openWords input (replicate programWords 0)) (linesOf (drop (registerEnd input) input)))
-      × Good (openWords input (replicate programWords 0))
