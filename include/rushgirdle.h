@@ -10,7 +10,7 @@
  *   - A pointer to uint32_t is aligned to 4 bytes.
  *   - What is lent to be written overlaps nothing else that is lent to the same call, and no other thread looks at it or writes it meanwhile.
  *     What is lent as const may overlap other const, and no thread writes it meanwhile.
- *   - rushgirdle_build needs 300 KB of stack, every other function 16 KB.
+ *   - As many bytes of stack are left as RUSHGIRDLE_STACK_BUILD and the others below say.
  *   Nothing checks these: a call that breaks one has no promise. Every value of every other parameter is taken.
  *
  * What is promised
@@ -60,6 +60,13 @@ enum rushgirdle_measure {
 #define RUSHGIRDLE_MOST_WORDS 84739  /* so many words are enough for every register: 3 + 256 + 4 * 16896 + 16896 */
 #define RUSHGIRDLE_LONGEST_NAME 255  /* so many bytes are enough for every name or query that is read from a line */
 #define RUSHGIRDLE_LONGEST_LINE 533  /* so many bytes are enough for every line that is written, its line feed included */
+
+/* The bytes of stack that a call takes below its caller's own, the return address among them. A loader that looks for memcpy and memset at their
+ * first call takes its own besides. */
+#define RUSHGIRDLE_STACK_BUILD 280000  /* rushgirdle_build */
+#define RUSHGIRDLE_STACK_INDEX 6000    /* rushgirdle_good, rushgirdle_list */
+#define RUSHGIRDLE_STACK_SEARCH 14000  /* rushgirdle_search */
+#define RUSHGIRDLE_STACK_FRAMES 256    /* each function that reads or writes a frame */
 
 /* ---- the index */
 
