@@ -199,7 +199,7 @@ static void good(void)
 static void list(void)
 {
     uint32_t size = (uint32_t)number("size", UINT32_MAX);
-    uint64_t feature = number("feature", UINT32_MAX);
+    uint64_t feature = number("feature", UINT64_MAX);
     struct slice index = words();
     end();
     rushgirdle_list_answer a = rushgirdle_list(part(&index), index.bytes / 4, size, feature);
