@@ -68,10 +68,20 @@ static size_t lines_length;
 static uint8_t query[NAME];
 static uint32_t words[RUSHGIRDLE_MOST_WORDS], built[RUSHGIRDLE_MOST_WORDS];
 static uint32_t ids[RUSHGIRDLE_MOST_NAMES], shared[RUSHGIRDLE_MOST_NAMES], sizes[RUSHGIRDLE_MOST_NAMES];
+static rushgirdle_row rows[RUSHGIRDLE_MOST_NAMES];
 static uint8_t name[RUSHGIRDLE_LONGEST_NAME], line[RUSHGIRDLE_LONGEST_LINE];
 static size_t line_length;
 static uint8_t measure;
 static uint16_t p, q;
+
+/* An input that is refused would lead nowhere. */
+static void wanted(int held, const char *otherwise)
+{
+    if (!held) {
+        failed++;
+        printf("FAILED: tests/stack.c: %s\n", otherwise);
+    }
+}
 
 /* Names that have every feature in common, or none but a few. */
 static void register_of(int equal)
@@ -87,17 +97,20 @@ static void register_of(int equal)
         }
         lines_length += (size_t)sprintf(lines + lines_length, "\n");
     }
-    rushgirdle_build((const uint8_t *)lines, lines_length, words, RUSHGIRDLE_MOST_WORDS);
+    wanted(rushgirdle_build((const uint8_t *)lines, lines_length, words, RUSHGIRDLE_MOST_WORDS).number == 0, "a register is refused");
 }
 
-static const uint8_t *bytes(void) { return (const uint8_t *)lines; }
-static void call_build(void) { CALLEE(rushgirdle_build)(bytes(), lines_length, built, RUSHGIRDLE_MOST_WORDS); }
+static void call_build(void) { CALLEE(rushgirdle_build)((const uint8_t *)lines, lines_length, built, RUSHGIRDLE_MOST_WORDS); }
 static void call_good(void) { CALLEE(rushgirdle_good)(words, RUSHGIRDLE_MOST_WORDS); }
 static void call_list(void) { CALLEE(rushgirdle_list)(words, RUSHGIRDLE_MOST_WORDS, NAME + 2, words[4 + RUSHGIRDLE_MOST_NAMES]); }
 static void call_search(void)
 {
     CALLEE(rushgirdle_search)(query, NAME, measure, p, q, UINT32_MAX, words, RUSHGIRDLE_MOST_WORDS,
                               ids, RUSHGIRDLE_MOST_NAMES, shared, RUSHGIRDLE_MOST_NAMES, sizes, RUSHGIRDLE_MOST_NAMES);
+}
+static void call_search_rows(void)
+{
+    CALLEE(rushgirdle_search_rows)(query, NAME, measure, p, q, UINT32_MAX, words, RUSHGIRDLE_MOST_WORDS, rows, RUSHGIRDLE_MOST_NAMES);
 }
 static void call_read_name(void) { CALLEE(rushgirdle_read_name)(line, line_length, name, sizeof name); }
 static void call_read_query(void) { CALLEE(rushgirdle_read_query)(line, line_length, name, sizeof name); }
@@ -119,6 +132,25 @@ static void deepen(size_t n)
 {
     if (n > most)
         most = n;
+}
+
+/* By every measure, of both registers. No fraction up to 1000 has a divisor that is found in more steps than 610/987. */
+#define SEARCHES(f) searches(call_##f, (any *)rushgirdle_##f)
+static void searches(void (*call)(void), any *function)
+{
+    static const uint16_t thresholds[][2] = {{1, 1000}, {610, 987}, {1000, 1000}};
+    for (int equal = 0; equal <= 1; equal++) {
+        register_of(equal);
+        for (measure = 1; measure <= 4; measure++)
+            for (int i = 0; i < 3; i++) {
+                p = thresholds[i][0];
+                q = thresholds[i][1];
+                deepen(need(call, function));
+                wanted(rushgirdle_search_rows(query, NAME, measure, p, q, UINT32_MAX, words, RUSHGIRDLE_MOST_WORDS, rows, RUSHGIRDLE_MOST_NAMES).rows >=
+                           (equal ? RUSHGIRDLE_MOST_NAMES : 1),
+                       "a search finds too little");
+            }
+    }
 }
 
 #define HOLDS(figure) holds(figure, #figure)
@@ -146,18 +178,10 @@ int main(void)
     }
     HOLDS(RUSHGIRDLE_STACK_INDEX);
 
-    /* no fraction up to 1000 has a divisor that is found in more steps than 610/987 */
-    static const uint16_t thresholds[][2] = {{1, 1000}, {610, 987}, {1000, 1000}};
-    for (int equal = 0; equal <= 1; equal++) {
-        register_of(equal);
-        for (measure = 1; measure <= 4; measure++)
-            for (int i = 0; i < 3; i++) {
-                p = thresholds[i][0];
-                q = thresholds[i][1];
-                TRY(search);
-            }
-    }
+    SEARCHES(search);
     HOLDS(RUSHGIRDLE_STACK_SEARCH);
+    SEARCHES(search_rows);
+    HOLDS(RUSHGIRDLE_STACK_ROWS);
 
     TRY(write_name);
     line_length = rushgirdle_write_name(line, sizeof line, 1, name, sizeof name).len;
