@@ -7,16 +7,16 @@
  *   A slice is a pointer and how many elements stand there, at most PTRDIFF_MAX bytes in all.
  *   - Where the length is above 0, every element can be read, and written where the pointer is not to const, for the whole call.
  *   - Where the length is 0, the pointer may be NULL; nothing is read or written through it.
- *   - A pointer to uint32_t is aligned to 4 bytes.
+ *   - A pointer to uint32_t or to rushgirdle_row is aligned to 4 bytes.
  *   - What is lent to be written overlaps nothing else that is lent to the same call, and no other thread looks at it or writes it meanwhile.
  *     What is lent as const may overlap other const, and no thread writes it meanwhile.
- *   - rushgirdle_build needs 300 KB of stack, every other function 16 KB.
+ *   - As many bytes of stack are left as RUSHGIRDLE_STACK_BUILD and the others below say.
  *   Nothing checks these: a call that breaks one has no promise. Every value of every other parameter is taken.
  *
  * What is promised
  *   - The number, every field, and every lent element afterwards are fixed by the rule. Nothing but the lent elements is written.
  *   - What an answer tells a caller to read lies within what was lent: start + count is at most the number of words, rows at most the length of
- *     each column, len at most the length of the buffer.
+ *     each column or of the list of rows, len at most the length of the buffer.
  *   - A refused search writes no row, a refused read no byte of the name, a refused write no byte of the line. A refused build sets every word
  *     to 4294967295.
  *   - No memory is taken, no pointer is kept, nothing is remembered from call to call: any number of threads may call at once.
@@ -60,6 +60,14 @@ enum rushgirdle_measure {
 #define RUSHGIRDLE_MOST_WORDS 84739  /* so many words are enough for every register: 3 + 256 + 4 * 16896 + 16896 */
 #define RUSHGIRDLE_LONGEST_NAME 255  /* so many bytes are enough for every name or query that is read from a line */
 #define RUSHGIRDLE_LONGEST_LINE 533  /* so many bytes are enough for every line that is written, its line feed included */
+
+/* The bytes of stack that a call takes below its caller's own, the return address among them. A loader that looks for memcpy and memset at their
+ * first call takes its own besides. */
+#define RUSHGIRDLE_STACK_BUILD 280000  /* rushgirdle_build */
+#define RUSHGIRDLE_STACK_INDEX 6000    /* rushgirdle_good, rushgirdle_list */
+#define RUSHGIRDLE_STACK_SEARCH 14000  /* rushgirdle_search */
+#define RUSHGIRDLE_STACK_ROWS 18000    /* rushgirdle_search_rows */
+#define RUSHGIRDLE_STACK_FRAMES 256    /* each function that reads or writes a frame */
 
 /* ---- the index */
 
@@ -107,6 +115,20 @@ rushgirdle_search_answer rushgirdle_search(
     uint32_t *ids, size_t ids_length,
     uint32_t *shared, size_t shared_length,
     uint32_t *sizes, size_t sizes_length);
+
+typedef struct {
+    uint32_t id;      /* the name's id */
+    uint32_t shared;  /* how many features it shares with the query */
+    uint32_t size;    /* its own size */
+} rushgirdle_row;
+
+/* The same search, with its rows as records: row k of the answer is rows[k], by ascending id. The rows lent are rows_length; those beyond the
+ * answer keep their contents, all of them where it is refused. Checks the index each time. */
+rushgirdle_search_answer rushgirdle_search_rows(
+    const uint8_t *query, size_t query_length,
+    uint8_t measure, uint16_t p, uint16_t q, uint32_t allowance,
+    const uint32_t *words, size_t words_length,
+    rushgirdle_row *rows, size_t rows_length);
 
 /* ---- frames: reading
  *

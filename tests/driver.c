@@ -1,6 +1,8 @@
 /* The proved library behind the second program's protocols (second/README.md): one case a line in, one line out.
  *
- *     driver good|list|build|search|frames
+ *     driver good|list|build|search|rows|frames
+ *
+ * `rows` is the protocol `search`, with the rows lent as records.
  *
  * What is lent stands between two guards and is filled before the call; what is only read is compared with a copy
  * after it. A touched guard or a changed input ends the program with status 3, a line that does not follow its
@@ -199,7 +201,7 @@ static void good(void)
 static void list(void)
 {
     uint32_t size = (uint32_t)number("size", UINT32_MAX);
-    uint64_t feature = number("feature", UINT32_MAX);
+    uint64_t feature = number("feature", UINT64_MAX);
     struct slice index = words();
     end();
     rushgirdle_list_answer a = rushgirdle_list(part(&index), index.bytes / 4, size, feature);
@@ -238,25 +240,68 @@ static struct slice column(size_t room)
     return s;
 }
 
+/* The case of a search. */
+static uint8_t measure;
+static uint16_t p, q;
+static uint32_t allowance;
+static size_t room;
+static struct slice query, searched;
+
+static void search_case(void)
+{
+    measure = (uint8_t)number("measure", UINT8_MAX);
+    p = (uint16_t)number("p", UINT16_MAX);
+    q = (uint16_t)number("q", UINT16_MAX);
+    allowance = (uint32_t)number("allowance", UINT32_MAX);
+    room = (size_t)number("room", SIZE_MAX / 16);
+    query = bytes("query");
+    searched = words();
+    end();
+}
+
+static void print_found(rushgirdle_search_answer a)
+{
+    printf("%u %u %u %u %u", (unsigned)a.number, (unsigned)a.rows, (unsigned)a.touches, (unsigned)a.p, (unsigned)a.q);
+}
+
+static void print_row(uint32_t id, uint32_t shared, uint32_t size)
+{
+    printf(" %u:%u:%u", id, shared, size);
+}
+
 static void search(void)
 {
-    uint8_t measure = (uint8_t)number("measure", UINT8_MAX);
-    uint16_t p = (uint16_t)number("p", UINT16_MAX), q = (uint16_t)number("q", UINT16_MAX);
-    uint32_t allowance = (uint32_t)number("allowance", UINT32_MAX);
-    size_t room = (size_t)number("room", SIZE_MAX / 8);
-    struct slice query = bytes("query"), index = words();
-    end();
+    search_case();
     struct slice ids = column(room), shared = column(room), sizes = column(room);
     rushgirdle_search_answer a =
-        rushgirdle_search(part(&query), query.bytes, measure, p, q, allowance, part(&index), index.bytes / 4,
+        rushgirdle_search(part(&query), query.bytes, measure, p, q, allowance, part(&searched), searched.bytes / 4,
                           part(&ids), room, part(&shared), room, part(&sizes), room);
-    struct slice *lent[] = { &query, &index, &ids, &shared, &sizes };
+    struct slice *lent[] = { &query, &searched, &ids, &shared, &sizes };
     for (size_t i = 0; i < sizeof lent / sizeof *lent; i++)
         check_slice(lent[i]);
-    printf("%u %u %u %u %u", (unsigned)a.number, (unsigned)a.rows, (unsigned)a.touches, (unsigned)a.p, (unsigned)a.q);
+    print_found(a);
     for (size_t i = 0; i < room; i++)
-        printf(" %u:%u:%u", ((uint32_t *)part(&ids))[i], ((uint32_t *)part(&shared))[i],
-               ((uint32_t *)part(&sizes))[i]);
+        print_row(((uint32_t *)part(&ids))[i], ((uint32_t *)part(&shared))[i], ((uint32_t *)part(&sizes))[i]);
+    putchar('\n');
+    for (size_t i = 0; i < sizeof lent / sizeof *lent; i++)
+        drop(lent[i]);
+}
+
+static void rows(void)
+{
+    search_case();
+    struct slice list = slice_of(room * sizeof(rushgirdle_row), 0);
+    rushgirdle_row *row = part(&list);
+    for (size_t i = 0; i < room; i++)
+        row[i] = (rushgirdle_row){ LENT_FIELD, LENT_FIELD, LENT_FIELD };
+    rushgirdle_search_answer a = rushgirdle_search_rows(part(&query), query.bytes, measure, p, q, allowance,
+                                                        part(&searched), searched.bytes / 4, row, room);
+    struct slice *lent[] = { &query, &searched, &list };
+    for (size_t i = 0; i < sizeof lent / sizeof *lent; i++)
+        check_slice(lent[i]);
+    print_found(a);
+    for (size_t i = 0; i < room; i++)
+        print_row(row[i].id, row[i].shared, row[i].size);
     putchar('\n');
     for (size_t i = 0; i < sizeof lent / sizeof *lent; i++)
         drop(lent[i]);
@@ -389,7 +434,8 @@ static char *read_all(void)
 int main(int count, char **given)
 {
     static const struct { const char *name; void (*answer)(void); } kinds[] = {
-        { "good", good }, { "list", list }, { "build", build }, { "search", search }, { "frames", frames },
+        { "good", good }, { "list", list }, { "build", build }, { "search", search }, { "rows", rows },
+        { "frames", frames },
     };
     for (size_t k = 0; count == 2 && k < sizeof kinds / sizeof *kinds; k++) {
         if (strcmp(given[1], kinds[k].name))
@@ -408,6 +454,6 @@ int main(int count, char **given)
         free(text);
         return fflush(stdout) ? 4 : 0;
     }
-    fputs("usage: driver good|list|build|search|frames\n", stderr);
+    fputs("usage: driver good|list|build|search|rows|frames\n", stderr);
     return 2;
 }

@@ -290,6 +290,92 @@ static void test_search(void)
     EXPECT(a.number == 0 && a.rows == 0 && a.touches == 0 && a.p == 1 && a.q == 1);
 }
 
+/* ---- the search with records */
+
+static rushgirdle_row rows[8];
+
+static int row_is(const rushgirdle_row *r, uint32_t id, uint32_t share, uint32_t size) { return r->id == id && r->shared == share && r->size == size; }
+
+static int rows_kept(size_t from)
+{
+    for (size_t k = from; k < 8; k++)
+        if (!row_is(&rows[k], KEPT, KEPT, KEPT))
+            return 0;
+    return 1;
+}
+
+static void fill_rows(void) { memset(rows, 0xA5, sizeof rows); }
+
+static rushgirdle_search_answer search_rows(const char *query, unsigned measure, unsigned p, unsigned q, uint32_t allowance, size_t room)
+{
+    fill_rows();
+    return rushgirdle_search_rows((const uint8_t *)query, strlen(query), (uint8_t)measure, (uint16_t)p, (uint16_t)q, allowance,
+                                  lane, INDEX, rows, room);
+}
+
+static int rows_refused(rushgirdle_search_answer a, unsigned number, uint32_t touches)
+{
+    return a.number == number && a.rows == 0 && a.touches == touches && a.p == 0 && a.q == 0 && rows_kept(0);
+}
+
+static void test_rows(void)
+{
+    /* a record is three words, one behind the other */
+    EXPECT(sizeof(rushgirdle_row) == 12 && sizeof rows == 96);
+
+    /* the index of LANE, LANES and PLANE that test_search has built */
+    rushgirdle_search_answer a = search_rows("LANE", RUSHGIRDLE_DICE, 8, 13, 15, 8);
+    EXPECT(a.number == 0 && a.rows == 3 && a.touches == 15 && a.p == 8 && a.q == 13);
+    EXPECT(row_is(&rows[0], 10, 6, 6) && row_is(&rows[1], 11, 4, 7) && row_is(&rows[2], 12, 4, 7) && rows_kept(3));
+    /* the same in lowest terms, with just the room; with one less, or one touch less, no row is written */
+    a = search_rows("LANE", 1, 16, 26, BLANK, 3);
+    EXPECT(a.number == 0 && a.rows == 3 && a.touches == 15 && a.p == 8 && a.q == 13 && row_is(&rows[2], 12, 4, 7) && rows_kept(3));
+    EXPECT(rows_refused(search_rows("LANE", 1, 8, 13, 15, 2), 8, 15));
+    EXPECT(rows_refused(search_rows("LANE", 1, 8, 13, 14, 8), 7, 14));
+    EXPECT(rows_refused(search_rows("LANE", 1, 8, 13, 0, 8), 7, 0));
+    /* one step above the similarity: LANE alone */
+    a = search_rows("LANE", 1, 9, 13, 100, 8);
+    EXPECT(a.number == 0 && a.rows == 1 && a.p == 9 && a.q == 13 && row_is(&rows[0], 10, 6, 6) && rows_kept(1));
+
+    /* the refusals in their order, each before those behind it */
+    EXPECT(rows_refused(search_rows("", 0, 0, 0, 0, 0), 1, 0));
+    EXPECT(rows_refused(search_rows("AAAAAAAAAAAAAAAAAAAAAAAAAAAAAAAAAAAAAAAAAAAAAAAAAAAAAAAAAAAAAAAAA", 0, 0, 0, 0, 8), 2, 0));
+    fill_rows();
+    EXPECT(rows_refused(rushgirdle_search_rows((const uint8_t *)"A\0B", 3, 0, 0, 0, 0, lane, INDEX, rows, 8), 3, 0));
+    EXPECT(rows_refused(search_rows("LANE", 0, 0, 0, 15, 8), 4, 0));
+    EXPECT(rows_refused(search_rows("LANE", 5, 8, 13, 15, 8), 4, 0));
+    EXPECT(rows_refused(search_rows("LANE", 1, 0, 13, 15, 8), 5, 0));
+    EXPECT(rows_refused(search_rows("LANE", 1, 14, 13, 15, 8), 5, 0));
+    EXPECT(rows_refused(search_rows("LANE", 1, 8, 1001, 15, 8), 5, 0));
+    uint32_t last = lane[2];
+    lane[2] = last + 1;
+    EXPECT(rows_refused(search_rows("LANE", 1, 8, 13, 0, 0), 6, 0));
+    lane[2] = last;
+
+    /* NULL with length 0: a query, an index, the records */
+    fill_rows();
+    EXPECT(rows_refused(rushgirdle_search_rows(NULL, 0, 1, 8, 13, 15, lane, INDEX, rows, 8), 1, 0));
+    EXPECT(rows_refused(rushgirdle_search_rows((const uint8_t *)"LANE", 4, 1, 8, 13, 15, NULL, 0, rows, 8), 6, 0));
+    EXPECT(rows_refused(rushgirdle_search_rows((const uint8_t *)"LANE", 4, 1, 8, 13, 15, lane, INDEX, NULL, 0), 8, 15));
+    a = rushgirdle_search_rows((const uint8_t *)"XYZ", 3, 1, 1, 1, 100, lane, INDEX, NULL, 0);
+    EXPECT(a.number == 0 && a.rows == 0 && a.touches == 0 && a.p == 1 && a.q == 1);
+
+    /* 256 names that are all alike: 255 records are too few, and of 300 the last 44 stay */
+    static char many[256 * 11 + 1];
+    static rushgirdle_row all[300];
+    int at = 0;
+    for (unsigned i = 0; i < 256; i++)
+        at += sprintf(many + at, "4E%04X0141\n", 2 * i);
+    rushgirdle_build_answer b = rushgirdle_build((const uint8_t *)many, (size_t)at, words, RUSHGIRDLE_MOST_WORDS);
+    EXPECT(b.number == 0);
+    memset(all, 0xA5, sizeof all);
+    a = rushgirdle_search_rows((const uint8_t *)"A", 1, 1, 1, 1, BLANK, words, RUSHGIRDLE_MOST_WORDS, all, 255);
+    EXPECT(a.number == 8 && a.rows == 0 && all_bytes((const uint8_t *)all, 0, sizeof all, 0xA5));
+    a = rushgirdle_search_rows((const uint8_t *)"A", 1, 1, 1, 1, BLANK, words, RUSHGIRDLE_MOST_WORDS, all, 300);
+    EXPECT(a.number == 0 && a.rows == 256 && a.touches == 768);
+    EXPECT(row_is(&all[0], 0, 3, 3) && row_is(&all[255], 510, 3, 3) && all_bytes((const uint8_t *)&all[256], 0, 44 * sizeof *all, 0xA5));
+}
+
 /* ---- frames */
 
 static uint8_t buffer[600];
@@ -433,6 +519,10 @@ static void test_fences(void)
     EXPECT(a.number == 0 && a.rows == 2 && a.touches == 6 && a.p == 1 && a.q == 1);
     EXPECT(i[0] == 1 && i[1] == 2 && h[0] == 3 && h[1] == 3 && z[0] == 3 && z[1] == 3);
     EXPECT(i[-1] == KEPT && h[-1] == KEPT && z[-1] == KEPT);
+    rushgirdle_row *r = fenced(NULL, 2 * sizeof *r);
+    a = rushgirdle_search_rows(query, 1, 1, 1, 1, 6, w, 23, r, 2);
+    EXPECT(a.number == 0 && a.rows == 2 && a.touches == 6 && a.p == 1 && a.q == 1);
+    EXPECT(row_is(&r[0], 1, 3, 3) && row_is(&r[1], 2, 3, 3) && row_is(&r[-1], KEPT, KEPT, KEPT));
 
     const char *line = "5103123456789ABCDEF0025A59\n";
     uint8_t *whole = fenced(line, 27), *name = fenced(NULL, 2), *out = fenced(NULL, 27);
@@ -460,6 +550,7 @@ int main(void)
     test_good();
     test_list();
     test_search();
+    test_rows();
     test_read();
     test_write();
     test_fences();

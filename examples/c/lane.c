@@ -1,4 +1,4 @@
-/* Which of three registered names are like LANE? The same as examples/python/lane.py, which prints the same.
+/* Which of three registered names are like LANE? The answers come as records. examples/python/lane.py asks for columns, and prints the same.
  *
  *   rt staticlib surface
  *   gcc -Iinclude -o target/lane examples/c/lane.c target/staticlib/libsurface.a
@@ -18,16 +18,13 @@ static uint32_t words[RUSHGIRDLE_MOST_WORDS];
 
 static void look_up(const char *query, uint32_t allowance)
 {
-    uint32_t ids[RUSHGIRDLE_MOST_NAMES];
-    uint32_t shared[RUSHGIRDLE_MOST_NAMES];
-    uint32_t sizes[RUSHGIRDLE_MOST_NAMES];
-    rushgirdle_search_answer found = rushgirdle_search(
+    rushgirdle_row rows[RUSHGIRDLE_MOST_NAMES];
+    rushgirdle_search_answer found = rushgirdle_search_rows(
         (const uint8_t *)query, strlen(query), RUSHGIRDLE_DICE, 8, 13, allowance,
-        words, RUSHGIRDLE_MOST_WORDS,
-        ids, RUSHGIRDLE_MOST_NAMES, shared, RUSHGIRDLE_MOST_NAMES, sizes, RUSHGIRDLE_MOST_NAMES);
+        words, RUSHGIRDLE_MOST_WORDS, rows, RUSHGIRDLE_MOST_NAMES);
     printf("%s, Dice 8/13, allowance %u: number %u\n", query, (unsigned)allowance, (unsigned)found.number);
     for (uint32_t k = 0; k < found.rows; k++)
-        printf("id %u shared %u size %u\n", (unsigned)ids[k], (unsigned)shared[k], (unsigned)sizes[k]);
+        printf("id %u shared %u size %u\n", (unsigned)rows[k].id, (unsigned)rows[k].shared, (unsigned)rows[k].size);
     printf("rows %u touches %u threshold %u/%u\n",
            (unsigned)found.rows, (unsigned)found.touches, (unsigned)found.p, (unsigned)found.q);
 }

@@ -1,4 +1,4 @@
-"""Which of three registered names are like LANE? The same as examples/c/lane.c, which prints the same.
+"""Which of three registered names are like LANE? The answers come as three columns. examples/c/lane.c asks for records, and prints the same.
 
   rt staticlib surface
   gcc -shared -o target/librushgirdle.so -Wl,--whole-archive target/staticlib/libsurface.a -Wl,--no-whole-archive

@@ -66,9 +66,10 @@ impl<'a> Index<'a> {
         self.postings.get(row.place as usize..end)
     }
 
-    /// The list of a size and feature, or the empty list where no row exists.
-    pub fn list_for(&self, size: u32, feature: u32) -> &'a [u32] {
-        let row = self.rows.iter().find(|row| row.size == size && row.feature == feature);
+    /// The list of a size and feature, or the empty list where no row exists: none has a feature beyond 32 bits.
+    pub fn list_for(&self, size: u32, feature: impl Into<u64>) -> &'a [u32] {
+        let feature = feature.into();
+        let row = self.rows.iter().find(|row| row.size == size && u64::from(row.feature) == feature);
         row.and_then(|row| self.list(row)).unwrap_or(&[])
     }
 }
@@ -83,6 +84,6 @@ pub fn good_index(words: &[u32]) -> Option<Index<'_>> {
 }
 
 /// The list of a size and feature as that very part of the words, empty where no row exists or the index is not good.
-pub fn list_for(words: &[u32], size: u32, feature: u32) -> &[u32] {
+pub fn list_for(words: &[u32], size: u32, feature: impl Into<u64>) -> &[u32] {
     good_index(words).map_or(&[], |index| index.list_for(size, feature))
 }

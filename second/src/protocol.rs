@@ -201,7 +201,7 @@ fn range_of(words: &[u32], list: &[u32]) -> Range<usize> {
 }
 
 fn list_line(case: &mut Words<'_>) -> Result<String, String> {
-    let (size, feature) = (case.number("size")?, case.number("feature")?);
+    let (size, feature): (u32, u64) = (case.number("size")?, case.number("feature")?);
     let words = case.slice()?;
     let list = list_for(&words, size, feature);
     if list.is_empty() {

@@ -9,6 +9,7 @@ use second::frames::{read_end, read_name, read_query, read_refused, read_row};
 use second::generate::lines::DAMAGES;
 use second::generate::{input, words};
 use second::good::{good, good_but, CONDITIONS};
+use second::index::list_for;
 use second::listed::similarity;
 use second::lookup::{lookup, parts};
 use second::measures::{least_count, Measure, Threshold};
@@ -68,6 +69,22 @@ fn every_number_comes_up() {
     assert_eq!(numbers(Kind::Search, 1500), set(&[0, 1, 2, 3, 4, 5, 6, 7, 8]));
     assert_eq!(numbers(Kind::Frames, 1500), set(&[0, 2, 8, 11]));
     assert_eq!(numbers(Kind::Sweep, 1500), set(&[0, 1]));
+}
+
+/// Lists that are there, lists that are not, and features beyond 32 bits of which the low 32 have a list.
+#[test]
+fn lists_are_asked_for_beyond_32_bits() {
+    let (mut found, mut missing, mut beyond) = (0, 0, 0);
+    for at in 0..500 {
+        let line = String::from_utf8(input(Kind::List, SEED, at)).unwrap();
+        let numbers: Vec<u64> = line.split_whitespace().map(|word| word.parse().unwrap()).collect();
+        let (size, feature) = (numbers[0] as u32, numbers[1]);
+        let words: Vec<u32> = numbers[2..].iter().map(|word| u32::try_from(*word).unwrap()).collect();
+        let listed = !list_for(&words, size, feature).is_empty();
+        *if listed { &mut found } else { &mut missing } += 1;
+        beyond += u32::from(!listed && !list_for(&words, size, feature as u32).is_empty());
+    }
+    assert!(found > 100 && missing > 100 && beyond > 20, "{found} found, {missing} missing, {beyond} beyond");
 }
 
 /// Every word of the index of a sweep is changed, and each in more than one way that is seen: a header word, a name, a

@@ -253,6 +253,9 @@ fn a_list_is_that_part_of_the_words() {
         assert!(ids.is_empty() || std::ptr::eq(list.as_ptr(), &APART[start]));
     }
     assert_eq!(list_for(&TWO, 3, A[1]), [1, 2]);
+    for high in [1, 1 << 31, u32::MAX] {
+        assert!(list_for(&TWO, 3, u64::from(high) << 32 | u64::from(A[1])).is_empty());
+    }
     for at in 0..TWO.len() - 1 {
         assert!(list_for(&TWO[..at], 3, A[1]).is_empty());
     }

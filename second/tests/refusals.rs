@@ -207,6 +207,6 @@ fn a_refused_build_is_refused_by_every_search() {
         build(&bytes, &mut words);
         let answer = search(&words, &query(1, 1, 1, 1000, b"LANE"), &mut [LENT; 3]);
         assert_eq!(answer.number, if number == 0 { 0 } else { 6 }, "{what}");
-        assert!(number == 0 || list_for(&words, 6, 0x0000_4C01).is_empty());
+        assert!(number == 0 || list_for(&words, 6, 0x0000_4C01_u32).is_empty());
     }
 }

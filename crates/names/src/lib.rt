@@ -13,7 +13,7 @@ pub const LONGEST: usize = 64;
 
 // The features of one name: the first `len` of `items`, in order of appearance; the places after them are 0.
 pub struct FeatureSet {
-    pub items: [u64; 66],
+    pub items: [u64; FeatureSet::CAPACITY],
     pub len: usize,
 }
 

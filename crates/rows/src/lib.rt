@@ -11,7 +11,8 @@ ghost use Rattle.search.specs.Answers.{searchOf, givenBy, rowsIn};
 ghost use Rattle.rows.specs.Rows.{rowsFrom, rowsOf, overRows, Filled};
 use search::Answer;
 
-// An answer row: a name's id, how many of the query's features it has, and its size.
+// An answer row: a name's id, how many of the query's features it has, and its size. Laid out as C has it, for the crate `surface`.
+#[repr(C)]
 pub struct Row {
     pub id: u32,
     pub shared: u32,

@@ -23,6 +23,9 @@ use Rattle.search.specs.declared.Answer.{Answer}
 use Rattle.search.specs.declared.Answer.the-variants.{Found, Refused}
 use Rattle.search.specs.Method.{touchesOf, answersOf}
 use Rattle.search.specs.Answers.{rowsIn, touchesIn, refusalOf, searchGoodOf, searchOf, roomOf, over, givenBy}
+use Rattle.rows.specs.declared.Row.{Row}
+use Rattle.rows.specs.Rows.{rowsOf, overRows}
+use Rattle.rows.proofs.Laws.{rows-refused}
 use Rattle.surface.specs.Flat.{listAnswer, searchAnswer, writeAnswer}
 
 -- a list lies within the words, whatever they are
@@ -34,7 +37,7 @@ list-within w y f = by-test (goodOf w) refl
     by-test true e = span-within w e y f
     by-test false e = omega arith
 
--- the rows lie within the room
+-- the rows lie within the room, which is the length of a list of records
 module _ (query : List ℕ) (m p q allowance : ℕ) (w : List ℕ) (room : ℕ) where
   abbrev found : Answer
   found =
@@ -66,6 +69,12 @@ pub columns-kept : (a : Answer) → (searchAnswer a .number ≡ 0 → ⊥) → (
 unfolding givenBy
 columns-kept (Found rows touches p q) n value places column = absurd (n refl)
 columns-kept (Refused number touches) n value places column = refl
+
+-- and every record
+pub records-kept : (a : Answer) → (searchAnswer a .number ≡ 0 → ⊥) → (w query places : List ℕ) (lent : List Row)
+    → overRows (rowsOf w query (givenBy a places)) lent ≡ lent
+records-kept (Found rows touches p q) n w query places lent = absurd (n refl)
+records-kept (Refused number touches) n w query places lent = rows-refused w query places number touches lent
 
 -- a name that was read lies within its buffer
 pub name-within : (y : Layout) (line : List ℕ) (room : ℕ) → readOf y line room .len ≤ room

@@ -11,7 +11,10 @@ ghost use Rattle.lists.specs.Lists.{spanFor};
 ghost use Rattle.register.specs.Build.{builtOf, wordsAfter};
 ghost use Rattle.search.specs.Method.{answersOf};
 ghost use Rattle.search.specs.Answers.{over, roomOf, givenBy, idColumn, sharedColumn, sizeColumn, searchOf};
+ghost use Rattle.rows.specs.Rows.{rowsOf, overRows};
 ghost use Rattle.surface.specs.Flat.{buildAnswer, listAnswer, searchAnswer, writeAnswer, nameAnswer, queryAnswer, rowAnswer, endAnswer, refusalAnswer};
+use rows::Row;
+use search::Answer;
 
 // ---- the flat answers, each with its number first
 
@@ -122,6 +125,33 @@ pub extern "C" fn rushgirdle_list(words: &[u32], size: u32, feature: u64) -> Lis
     }
 }
 
+// A search's answer, set out.
+fn flat(answer: Answer) -> SearchAnswer
+    ensures { λ r. ⌜ r ≡ searchAnswer answer ⌝ }
+{
+    match answer {
+        Answer::Found {
+            rows,
+            touches,
+            p,
+            q,
+        } => SearchAnswer {
+            number: 0,
+            rows,
+            touches,
+            p,
+            q,
+        },
+        Answer::Refused { number: n, touches } => SearchAnswer {
+            number: n,
+            rows: 0,
+            touches,
+            p: 0,
+            q: 0,
+        },
+    }
+}
+
 // The counted search. Row k of an answer is place k of each of the three columns.
 #[no_mangle]
 pub extern "C" fn rushgirdle_search(
@@ -140,28 +170,23 @@ pub extern "C" fn rushgirdle_search(
     ensures { λ _. ⌜ now (shared .exit) ≡ over (sharedColumn (now (words .entry)) (featuresOf (now (query .entry))) (givenBy (searchOf (now (query .entry)) measure p q allowance (now (words .entry)) (roomOf (now (ids .entry)) (now (shared .entry)) (now (sizes .entry)))) (answersOf (now (words .entry)) measure p q (featuresOf (now (query .entry)))))) (now (shared .entry)) ⌝ }
     ensures { λ _. ⌜ now (sizes .exit) ≡ over (sizeColumn (now (words .entry)) (givenBy (searchOf (now (query .entry)) measure p q allowance (now (words .entry)) (roomOf (now (ids .entry)) (now (shared .entry)) (now (sizes .entry)))) (answersOf (now (words .entry)) measure p q (featuresOf (now (query .entry)))))) (now (sizes .entry)) ⌝ }
 {
-    let a = search::search(query, measure, p, q, allowance, words, ids, shared, sizes);
-    match a {
-        search::Answer::Found {
-            rows,
-            touches,
-            p,
-            q,
-        } => SearchAnswer {
-            number: 0,
-            rows,
-            touches,
-            p,
-            q,
-        },
-        search::Answer::Refused { number: n, touches } => SearchAnswer {
-            number: n,
-            rows: 0,
-            touches,
-            p: 0,
-            q: 0,
-        },
-    }
+    flat(search::search(query, measure, p, q, allowance, words, ids, shared, sizes))
+}
+
+// The counted search, its answers written as records.
+#[no_mangle]
+pub extern "C" fn rushgirdle_search_rows(
+    query: &[u8],
+    measure: u8,
+    p: u16,
+    q: u16,
+    allowance: u32,
+    words: &[u32],
+    rows: &mut [Row],
+) -> SearchAnswer
+    ensures { λ r. ⌜ (r ≡ searchAnswer (searchOf (now (query .entry)) measure p q allowance (now (words .entry)) (length (now (rows .entry))))) × (now (rows .exit) ≡ overRows (rowsOf (now (words .entry)) (featuresOf (now (query .entry))) (givenBy (searchOf (now (query .entry)) measure p q allowance (now (words .entry)) (length (now (rows .entry)))) (answersOf (now (words .entry)) measure p q (featuresOf (now (query .entry)))))) (now (rows .entry))) ⌝ }
+{
+    flat(rows::search_rows(query, measure, p, q, allowance, words, rows))
 }
 
 // ---- the frames

@@ -220,23 +220,26 @@ pub fn good(random: &mut Random) -> String {
     spaced(&words::any(random, &known, 8))
 }
 
-/// A size, a feature and index words: mostly a row that is there.
+/// A size, a feature and index words: mostly a row that is there. A feature has 64 bits, of which no row has more than 32.
 pub fn list(random: &mut Random) -> String {
     let known = names::fresh(random);
     let words = words::any(random, &known, 2);
     let rows = cut(&words).map_or(Vec::new(), |index| index.rows);
-    let (mut size, mut feature) = (random.between(0, 70) as u32, random.next() as u32);
+    let (mut size, mut feature) = (random.between(0, 70) as u32, u64::from(random.next() as u32));
     if !rows.is_empty() {
         let row = random.pick(&rows);
-        (size, feature) = (row.size, row.feature);
+        (size, feature) = (row.size, u64::from(row.feature));
         match random.below(6) {
             0 => size = size.wrapping_add(1),
-            1 => feature = feature.wrapping_add(1),
+            1 => feature += 1,
             2 => size = random.pick(&rows).size,
             _ => (),
         }
     }
-    [spaced(&[size, feature]), spaced(&words)].join(" ")
+    if random.once_in(6) {
+        feature |= random.pick(&[1, 2, 1 << 31, u64::from(u32::MAX)]) << 32;
+    }
+    [size.to_string(), feature.to_string(), spaced(&words)].join(" ")
 }
 
 /// A slice length and a register: the length at the total, one below or one above, or at an edge of its own.

@@ -27,13 +27,11 @@ use types.Run.{init, store, forget, stop, hop, fld, from, load, lit, addr, and-t
 use types.Part.{whole, sub, look-in, agg, rep}
 use denote.RattleType.{owns}
 use denote.Laws.{Is, Makes, shows}
-use denote.Plain.{uint-vals, uint-tells, uint-makes, uint-lawful, nothing-lawful}
+use denote.Plain.{uint-makes, uint-lawful, nothing-lawful}
 use denote.Builtin.{u8, u16, u32, usize, unit}
 use denote.Ref.{RefT}
 use denote.Steps.{only, owned, peeks, heard, nothing}
-use denote.Slice.{sliceVal, MutSlice, ShrSlice, Room, finally, slice-vals, mut-slice-tells, shr-slice-tells, shr-slice-copy}
-use denote.Exit.{yes}
-use denote.Signature.{plain}
+use denote.Slice.{sliceVal, MutSlice, ShrSlice, Room, finally, shr-slice-copy}
 use denote.Enum.Laws as Variants
 use denote.Triple.Statement.{Contract, Triple}
 use denote.Triple.Call.{calls-at}
@@ -41,7 +39,7 @@ use denote.Triple.Clauses.{ensured, lasts}
 use denote.Triple.Entry.{onEntry}
 use denote.Triple.Spec.{Meets, tripleOf}
 use denote.Triple.Table.{entered, cited}
-use denote.Triple.Walked.{says, Stays, stay-none, gave-slice, stay-none-slice, walkOf, AllGo, goes-none, goes-gave-slice, goes-none-slice, Walks, ends-at, walked, walk-meets}
+use denote.Triple.Walked.{says, walkOf, Walks, ends-at, walked, walk-meets}
 use Rattle.names.specs.Features.{featuresOf}
 use Rattle.index.specs.Good.{mostNames}
 use Rattle.search.specs.Method.{answersOf}
@@ -54,6 +52,7 @@ use Rattle.rows.specs.Rows.{rowAt, rowsOf, overRows, Filled}
 use Rattle.rows.proofs.Lists.{rowsOver, rows-given}
 use Rattle.rows.proofs.Slices.{ref}
 use Rattle.rows.proofs.Arrays.{zeros, Nums, begun, begun-typed, lends-array, array-back, shows-array, array-freed}
+use Rattle.rows.proofs.Passed.{stayed, goes, spells, tells}
 use Rattle.rows.proofs.Row as row-type
 use Rattle.rows.proofs.fill_columns as fill-columns
 use Rattle.rows.proofs.fill_columns.Symbol as fill-columns-def
@@ -71,28 +70,6 @@ use Rattle.rows.proofs.search_rows.Key.{name as #rows·search-rows}
 use Rattle.rows.proofs.search_rows as search-rows
 use Rattle.rows.proofs.search_rows.Statement as stated
 use Rattle.rows.proofs.search_rows.Code as code
-
--- what is left of each parameter at exit: the rows have gone to `put_rows` for good
-abbrev stayed : Stays (search-rows.ended .signature .params) (search-rows.ended .kept)
-stayed = (
-  stay-none-slice (0 ∷ []) tt (plain (λ _. u8)) yes,
-  (
-    stay-none (λ _. u8) yes,
-    (
-      stay-none (λ _. u16) yes,
-      (
-        stay-none (λ _. u16) yes,
-        (
-          stay-none (λ _. u32) yes,
-          (
-            stay-none-slice (1 ∷ []) tt (plain (λ _. u32)) yes,
-            (gave-slice (2 ∷ []) tt (plain (λ _. row-type.the-row)), tt),
-          ),
-        ),
-      ),
-    ),
-  ),
-)
 
 -- the contracts that the proof cites
 abbrev Fill : {M : Type 1} (𝓤 : URA M) (H : Heap 𝓤) (A : Atoms 𝓤) (mem : Memory → SProp 𝓤) (run : Routine → Fun 𝓤) → Contract 𝓤
@@ -414,8 +391,7 @@ module _ {M : Type 1} (𝓤 : URA M) (H : Heap 𝓤) (A : Atoms 𝓤) (W : Given
       → Walks 𝓤 H A search-rows.ended stayed (WpFn 𝓤 H C Λ code.function) (search-rows.clauses 𝓤 H A mem run)
   walks C Λ fm fills counts puts =
       walked 𝓤 H A search-rows.ended stayed (search-rows.clauses 𝓤 H A mem run) (WpFn 𝓤 H C Λ code.function)
-      (λ κs. (slice-vals, (uint-vals w8, (uint-vals w16, (uint-vals w16, (uint-vals w32, (slice-vals, (slice-vals, tt))))))))
-      (λ κs. (shr-slice-tells (named 0) (κs .0) u8, (uint-tells w8, (uint-tells w16, (uint-tells w16, (uint-tells w32, (shr-slice-tells (named 1) (κs .1 .0) u32, (mut-slice-tells (named 2) (κs .1 .1 .0) row-type.the-row, tt))))))))
+      spells tells
       (λ κs qs bounds a g are. via 𝓤 _ (fst∗ 𝓤 _ (emp 𝓤))
       (walk 𝓤 H A W mem run (κs .0) (κs .1 .0) (κs .1 .1 .0) (qs .0) (qs .1 .0) (qs .1 .1 .0)
       (a .0 .ptr .0) (a .0 .ptr .1) (a .0 .name) (a .0 .now) (a .1 .0) (a .1 .1 .0) (a .1 .1 .1 .0) (a .1 .1 .1 .1 .0)
@@ -424,31 +400,10 @@ module _ {M : Type 1} (𝓤 : URA M) (H : Heap 𝓤) (A : Atoms 𝓤) (W : Given
       (are .0 .0 .1) (are .1 .0 .1) (are .1 .1 .0 .1) (are .1 .1 .1 .0 .1) (are .1 .1 .1 .1 .0 .1) (are .1 .1 .1 .1 .1 .0 .0 .1) (are .1 .1 .1 .1 .1 .1 .0 .0 .1)
       C Λ fm fills counts puts))
 
-  goes : AllGo 𝓤 H A W 3 (search-rows.signature .params) (search-rows.ended .kept) stayed
-  goes = (
-    goes-none-slice 𝓤 H A W 3 (0 ∷ []) tt (plain (λ _. u8)) yes,
-    (
-      goes-none 𝓤 H A W 3 (λ _. u8) yes (λ κs x f. refl),
-      (
-        goes-none 𝓤 H A W 3 (λ _. u16) yes (λ κs x f. refl),
-        (
-          goes-none 𝓤 H A W 3 (λ _. u16) yes (λ κs x f. refl),
-          (
-            goes-none 𝓤 H A W 3 (λ _. u32) yes (λ κs x f. refl),
-            (
-              goes-none-slice 𝓤 H A W 3 (1 ∷ []) tt (plain (λ _. u32)) yes,
-              (goes-gave-slice 𝓤 H A W 3 2 tt (plain (λ _. row-type.the-row)), tt),
-            ),
-          ),
-        ),
-      ),
-    ),
-  )
-
   meets : (𝓣 : Tables 𝓤 H) → Triple 𝓤 (𝓣 .C #rows·fill-columns) (Fill 𝓤 H A mem run) → Triple 𝓤 (𝓣 .C #rows·rows-in) (Count 𝓤 H A mem run) → Triple 𝓤 (𝓣 .C #rows·put-rows) (Put 𝓤 H A mem run)
       → Meets 𝓤 H A search-rows.signature (WpFn 𝓤 H (𝓣 .C) (𝓣 .Λ) code.function) (search-rows.spec 𝓤 H A mem run)
   meets 𝓣 fills counts puts =
-      walk-meets 𝓤 H A search-rows.ended stayed W goes (search-rows.clauses 𝓤 H A mem run) (WpFn 𝓤 H (𝓣 .C) (𝓣 .Λ) code.function) (WpFn-mono 𝓤 H (W .laws) 𝓣 code.function)
+      walk-meets 𝓤 H A search-rows.ended stayed W (goes 𝓤 H A W) (search-rows.clauses 𝓤 H A mem run) (WpFn 𝓤 H (𝓣 .C) (𝓣 .Λ) code.function) (WpFn-mono 𝓤 H (W .laws) 𝓣 code.function)
       (walks (𝓣 .C) (𝓣 .Λ) (fmOf 𝓤 H (W .laws) 𝓣) fills counts puts)
 
 pub search-rows-spec : {M : Type 1} → stated.statement M

@@ -1,0 +1,205 @@
+/* How much stack each function of include/rushgirdle.h takes. It is called on a stack that was painted before, on inputs that lead it as deep as
+ * it goes, and how far the paint is gone is compared with the header's figure: that has to be enough, and at most one and a half times what is
+ * taken. Prints what is taken, what fails, and at the end 'N passed, M failed'. For x86-64, as the archive is. */
+#include <stdio.h>
+#include <string.h>
+
+#include "rushgirdle.h"
+
+static unsigned passed, failed;
+
+/* ---- the painted stack */
+
+#define AREA 1048576
+_Alignas(16) static unsigned char area[AREA];
+
+/* Calls it on the area, its stack pointer at the area's end. */
+static void on_area(void (*call)(void))
+{
+    __asm__ volatile(
+        "movq %%rsp, %%r12\n\t"
+        "movq %0, %%rsp\n\t"
+        "callq *%1\n\t"
+        "movq %%r12, %%rsp"
+        :
+        : "r"(area + AREA), "r"(call)
+        : "r12", "rax", "rcx", "rdx", "rsi", "rdi", "r8", "r9", "r10", "r11", "memory", "cc", "xmm0", "xmm1", "xmm2", "xmm3", "xmm4", "xmm5",
+          "xmm6", "xmm7", "xmm8", "xmm9", "xmm10", "xmm11", "xmm12", "xmm13", "xmm14", "xmm15");
+}
+
+typedef void any(void);
+
+static void idle(void) {}
+
+/* what a call below calls: the function that it is for, or `idle` */
+static any *volatile callee;
+#define CALLEE(f) ((__typeof__(&f))callee)
+
+static size_t taken(void (*call)(void), any *function, int paint)
+{
+    memset(area, paint, AREA);
+    callee = function;
+    on_area(call);
+    size_t low = 0;
+    while (low < AREA && area[low] == paint)
+        low++;
+    return AREA - low;
+}
+
+/* The bytes below the caller's own, its return address among them. What was written may look like one paint, so there are two; the first call
+ * is for the loader, which may have a function of the C library to find. */
+static size_t need(void (*call)(void), any *function)
+{
+    taken(call, function, 0);
+    size_t most = 0;
+    for (int paint = 0x5A; paint <= 0xA5; paint += 0x4B) {
+        size_t n = taken(call, function, paint) - taken(call, idle, paint) + sizeof(void *);
+        if (n > most)
+            most = n;
+    }
+    return most;
+}
+
+/* ---- the inputs: 256 names of 64 bytes, and what is largest of a line */
+
+#define NAME 64
+static char lines[RUSHGIRDLE_MOST_NAMES * 137 + 1];
+static size_t lines_length;
+static uint8_t query[NAME];
+static uint32_t words[RUSHGIRDLE_MOST_WORDS], built[RUSHGIRDLE_MOST_WORDS];
+static uint32_t ids[RUSHGIRDLE_MOST_NAMES], shared[RUSHGIRDLE_MOST_NAMES], sizes[RUSHGIRDLE_MOST_NAMES];
+static rushgirdle_row rows[RUSHGIRDLE_MOST_NAMES];
+static uint8_t name[RUSHGIRDLE_LONGEST_NAME], line[RUSHGIRDLE_LONGEST_LINE];
+static size_t line_length;
+static uint8_t measure;
+static uint16_t p, q;
+
+/* An input that is refused would lead nowhere. */
+static void wanted(int held, const char *otherwise)
+{
+    if (!held) {
+        failed++;
+        printf("FAILED: tests/stack.c: %s\n", otherwise);
+    }
+}
+
+/* Names that have every feature in common, or none but a few. */
+static void register_of(int equal)
+{
+    lines_length = 0;
+    for (unsigned i = 0; i < RUSHGIRDLE_MOST_NAMES; i++) {
+        lines_length += (size_t)sprintf(lines + lines_length, "4E%04X%02X", i, NAME);
+        for (unsigned k = 0; k < NAME; k++) {
+            unsigned byte = equal ? 'A' : k % 2 == 0 ? 1 + i % 16 + 16 * (k / 2 % 8) : 1 + i / 16 + 16 * (k / 16);
+            if (i == 0)
+                query[k] = (uint8_t)byte;
+            lines_length += (size_t)sprintf(lines + lines_length, "%02X", byte);
+        }
+        lines_length += (size_t)sprintf(lines + lines_length, "\n");
+    }
+    wanted(rushgirdle_build((const uint8_t *)lines, lines_length, words, RUSHGIRDLE_MOST_WORDS).number == 0, "a register is refused");
+}
+
+static void call_build(void) { CALLEE(rushgirdle_build)((const uint8_t *)lines, lines_length, built, RUSHGIRDLE_MOST_WORDS); }
+static void call_good(void) { CALLEE(rushgirdle_good)(words, RUSHGIRDLE_MOST_WORDS); }
+static void call_list(void) { CALLEE(rushgirdle_list)(words, RUSHGIRDLE_MOST_WORDS, NAME + 2, words[4 + RUSHGIRDLE_MOST_NAMES]); }
+static void call_search(void)
+{
+    CALLEE(rushgirdle_search)(query, NAME, measure, p, q, UINT32_MAX, words, RUSHGIRDLE_MOST_WORDS,
+                              ids, RUSHGIRDLE_MOST_NAMES, shared, RUSHGIRDLE_MOST_NAMES, sizes, RUSHGIRDLE_MOST_NAMES);
+}
+static void call_search_rows(void)
+{
+    CALLEE(rushgirdle_search_rows)(query, NAME, measure, p, q, UINT32_MAX, words, RUSHGIRDLE_MOST_WORDS, rows, RUSHGIRDLE_MOST_NAMES);
+}
+static void call_read_name(void) { CALLEE(rushgirdle_read_name)(line, line_length, name, sizeof name); }
+static void call_read_query(void) { CALLEE(rushgirdle_read_query)(line, line_length, name, sizeof name); }
+static void call_read_row(void) { CALLEE(rushgirdle_read_row)(line, line_length); }
+static void call_read_end(void) { CALLEE(rushgirdle_read_end)(line, line_length); }
+static void call_read_refusal(void) { CALLEE(rushgirdle_read_refusal)(line, line_length); }
+static void call_write_name(void) { CALLEE(rushgirdle_write_name)(line, sizeof line, 65535, name, sizeof name); }
+static void call_write_query(void) { CALLEE(rushgirdle_write_query)(line, sizeof line, 4, 610, 987, UINT32_MAX, name, sizeof name); }
+static void call_write_row(void) { CALLEE(rushgirdle_write_row)(line, sizeof line, 65535, 66, 66); }
+static void call_write_end(void) { CALLEE(rushgirdle_write_end)(line, sizeof line, 256, UINT32_MAX, 610, 987); }
+static void call_write_refusal(void) { CALLEE(rushgirdle_write_refusal)(line, sizeof line, 7, UINT32_MAX); }
+
+/* ---- the figures */
+
+static size_t most; /* of the calls since the last figure */
+
+#define TRY(f) deepen(need(call_##f, (any *)rushgirdle_##f))
+static void deepen(size_t n)
+{
+    if (n > most)
+        most = n;
+}
+
+/* By every measure, of both registers. No fraction up to 1000 has a divisor that is found in more steps than 610/987. */
+#define SEARCHES(f) searches(call_##f, (any *)rushgirdle_##f)
+static void searches(void (*call)(void), any *function)
+{
+    static const uint16_t thresholds[][2] = {{1, 1000}, {610, 987}, {1000, 1000}};
+    for (int equal = 0; equal <= 1; equal++) {
+        register_of(equal);
+        for (measure = 1; measure <= 4; measure++)
+            for (int i = 0; i < 3; i++) {
+                p = thresholds[i][0];
+                q = thresholds[i][1];
+                deepen(need(call, function));
+                wanted(rushgirdle_search_rows(query, NAME, measure, p, q, UINT32_MAX, words, RUSHGIRDLE_MOST_WORDS, rows, RUSHGIRDLE_MOST_NAMES).rows >=
+                           (equal ? RUSHGIRDLE_MOST_NAMES : 1),
+                       "a search finds too little");
+            }
+    }
+}
+
+#define HOLDS(figure) holds(figure, #figure)
+static void holds(size_t figure, const char *what)
+{
+    int held = most <= figure && 2 * figure <= 3 * most;
+    *(held ? &passed : &failed) += 1;
+    printf("%s%s is %zu, and %zu bytes are taken\n", held ? "" : "FAILED: tests/stack.c: ", what, figure, most);
+    most = 0;
+}
+
+int main(void)
+{
+    memset(name, 'Z', sizeof name);
+    for (int equal = 0; equal <= 1; equal++) {
+        register_of(equal);
+        TRY(build);
+    }
+    HOLDS(RUSHGIRDLE_STACK_BUILD);
+
+    for (int equal = 0; equal <= 1; equal++) {
+        register_of(equal);
+        TRY(good);
+        TRY(list);
+    }
+    HOLDS(RUSHGIRDLE_STACK_INDEX);
+
+    SEARCHES(search);
+    HOLDS(RUSHGIRDLE_STACK_SEARCH);
+    SEARCHES(search_rows);
+    HOLDS(RUSHGIRDLE_STACK_ROWS);
+
+    TRY(write_name);
+    line_length = rushgirdle_write_name(line, sizeof line, 1, name, sizeof name).len;
+    TRY(read_name);
+    TRY(write_query);
+    line_length = rushgirdle_write_query(line, sizeof line, 1, 1, 1, 1, name, sizeof name).len;
+    TRY(read_query);
+    TRY(write_row);
+    line_length = rushgirdle_write_row(line, sizeof line, 1, 1, 1).len;
+    TRY(read_row);
+    TRY(write_end);
+    line_length = rushgirdle_write_end(line, sizeof line, 1, 1, 1, 1).len;
+    TRY(read_end);
+    TRY(write_refusal);
+    line_length = rushgirdle_write_refusal(line, sizeof line, 1, 1).len;
+    TRY(read_refusal);
+    HOLDS(RUSHGIRDLE_STACK_FRAMES);
+
+    printf("%u passed, %u failed\n", passed, failed);
+    return failed == 0 ? 0 : 1;
+}
