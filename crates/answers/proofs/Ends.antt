@@ -11,7 +11,7 @@ use lib.ListN.{length, getD, take, drop, replicate}
 use Rattle.laws.specs.Lists.{countOf, tabulate}
 use Rattle.laws.specs.Each.{Each}
 use Rattle.laws.proofs.Lists.{count-append}
-use Rattle.laws.proofs.Members.{each-nil, each-cons, each-append}
+use Rattle.laws.proofs.Members.{or-cases, or-right, each-nil, each-cons, each-append}
 use Rattle.laws.proofs.Images.{each-tabulate}
 use Rattle.laws.proofs.Order.{eq-or-ne}
 use Rattle.names.specs.Features.{featuresOf}
@@ -39,14 +39,6 @@ or-false a b p q = rw (p, q) refl
 or-left : (a b : Bool) → a ≡ true → a || b ≡ true
 or-left a b p = rw p refl
 
-or-right : (a b : Bool) → b ≡ true → a || b ≡ true
-or-right true b p = refl
-or-right false b p = p
-
-or-either : (P : Type 0) (a b : Bool) → a || b ≡ true → (a ≡ true → P) → (b ≡ true → P) → P
-or-either P true b e f g = f refl
-or-either P false b e f g = g e
-
 pub row-goes-on : (id shared size : ℕ) → endsAnswer (rowLine id shared size) ≡ false
 unfolding endsAnswer
 row-goes-on id shared size =
@@ -70,9 +62,10 @@ refusal-ends number touches =
 ends-feed : (l : List ℕ) → endsAnswer l ≡ true → getD l (length l - 1) 0 ≡ 10
 unfolding endsAnswer
 ends-feed l e =
-    or-either (getD l (length l - 1) 0 ≡ 10) (isFrame endFrame l) (isFrame refusalFrame l) e
-    (λ f. last-feed l (frame-well-formed endFrame l f))
-    (λ f. last-feed l (frame-well-formed refusalFrame l f))
+    ⊎-elim
+    (λ (f : isFrame endFrame l ≡ true). last-feed l (frame-well-formed endFrame l f))
+    (λ (f : isFrame refusalFrame l ≡ true). last-feed l (frame-well-formed refusalFrame l f))
+    (or-cases (isFrame endFrame l) (isFrame refusalFrame l) e)
 
 -- text that is lines, the last of which ends an answer, has fewer that do where it breaks off
 broken : (text : List ℕ) (ls : List (List ℕ)) (n : ℕ) → text ≡ joined ls → Ended endsAnswer ls → n < length text

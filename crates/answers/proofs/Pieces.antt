@@ -7,26 +7,25 @@ use Prim.Native.Nat.{ℕ, _+_, _≤_, _<_}
 use native.Mathlib.Omega.{arith}
 use lib.ListN.{length, take, drop, replicate, length-append, length-drop, length-replicate}
 use lib.Seq.{drop-drop, take-at, drop-at}
-use lib.Dec.{leb, ltb}
-use borrow.Author.Tests.{le-leb, ltb-false}
+use lib.Dec.{ltb}
+use borrow.Author.Tests.{ltb-false}
 use Rattle.layouts.specs.declared.Written.{Written}
 use Rattle.register.specs.Lines.{linesOf, lineLength}
 use Rattle.register.specs.Build.{blank, builtOf}
 use Rattle.register.proofs.Names.{same-build}
 use Rattle.answers.specs.declared.Opened.{Opened}
 use Rattle.answers.specs.Output.{mostInput, registerEnd, registerOf, programWords, longestAnswer, openedOf, openWords, answerOf, fittingOf, fittedOf, lineText, respondedOf, answersText, outputOf}
+use Rattle.answers.proofs.Text.{fitting-all, fitted-all}
 use Rattle.answers.proofs.Reading.{answer-most}
 use Rattle.answers.proofs.Responding.{text-first, text-end, output-opened}
 
 -- ---- an answer in a buffer that holds the longest
 
 pub fitting-whole : (text : List ℕ) (room : ℕ) → length text ≤ room → fittingOf text room ≡ record { number = 0; len = length text }
-unfolding fittingOf
-fitting-whole text room h = rw (le-leb (length text) room h)
+fitting-whole text room h = sym (fitting-all text room (length text) refl h)
 
 pub fitted-whole : (text out : List ℕ) → length text ≤ length out → take (length text) (fittedOf text out) ≡ text
-unfolding fittedOf
-fitted-whole text out h = rw (le-leb (length text) (length out) h) (take-at text (drop (length text) out) (length text) refl)
+fitted-whole text out h = ap (take (length text)) (sym (fitted-all text out (length text) refl h)) ∙ take-at text (drop (length text) out) (length text) refl
 
 module _ (w input : List ℕ) (at : ℕ) where
   pub line-most : length (lineText w input at) ≤ longestAnswer
