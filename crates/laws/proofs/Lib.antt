@@ -13,3 +13,4 @@ pub mod Halving
 pub mod Found
 pub mod Sums
 pub mod Hits
+pub mod Cases

@@ -4,3 +4,4 @@ pub mod Sort
 pub mod First
 pub mod Filter
 pub mod Each
+pub mod Cases

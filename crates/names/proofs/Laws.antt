@@ -12,6 +12,7 @@ use lib.ListN.{length, getD, List·getD-eq-default}
 use lib.Dec.{eqb, ltb, lit<}
 use borrow.Author.Tests.{eq-eqb, ne-eqb, eqb-true, eqb-false, lt-ltb, le-ltb, ltb-true, ltb-false}
 use Rattle.laws.specs.Lists.{member, Distinct, tabulate}
+use Rattle.laws.specs.Cases.{firstCase}
 use Rattle.laws.proofs.Lists.{distinct-nil, length-tabulate, getD-tabulate, distinct-tabulate}
 use Rattle.laws.proofs.Order.{le-or-lt, eq-or-ne}
 use Rattle.names.specs.Names.{longest, judgeOf}
@@ -21,24 +22,24 @@ use Rattle.names.proofs.Lemmas.{times-met, times-passed, number-within,
 -- ---- the judgement of a name, case by case
 
 pub judge-empty : (s : List ℕ) → length s ≡ 0 → judgeOf s ≡ 1
-unfolding judgeOf
+unfolding judgeOf firstCase
 judge-empty s e = rw (eq-eqb (length s) 0 e)
 
 pub judge-long : (s : List ℕ) → longest < length s → judgeOf s ≡ 2
-unfolding judgeOf
+unfolding judgeOf firstCase
 judge-long s h = rw (ne-eqb (length s) 0 (λ e. omega arith), lt-ltb longest (length s) h)
 
 pub judge-zero : (s : List ℕ) → (length s ≡ 0 → ⊥) → length s ≤ longest → member 0 s ≡ true → judgeOf s ≡ 3
-unfolding judgeOf
+unfolding judgeOf firstCase
 judge-zero s n h z = rw (ne-eqb (length s) 0 n, le-ltb longest (length s) h, z)
 
 pub judge-good : (s : List ℕ) → (length s ≡ 0 → ⊥) → length s ≤ longest → member 0 s ≡ false → judgeOf s ≡ 0
-unfolding judgeOf
+unfolding judgeOf firstCase
 judge-good s n h z = rw (ne-eqb (length s) 0 n, le-ltb longest (length s) h, z)
 
 -- what a name that is judged 0 is
 pub good-name : (s : List ℕ) → judgeOf s ≡ 0 → (1 ≤ length s) × (length s ≤ longest) × (member 0 s ≡ false)
-unfolding judgeOf
+unfolding judgeOf firstCase
 good-name s g = by-tests (eqb (length s) 0) refl (ltb longest (length s)) refl (member 0 s) refl g
   where
     by-tests : (a : Bool) → eqb (length s) 0 ≡ a → (b : Bool) → ltb longest (length s) ≡ b → (z : Bool) → member 0 s ≡ z

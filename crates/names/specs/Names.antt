@@ -1,16 +1,20 @@
--- What a name is, and the number that judges one. Every layer that meets a name or a query asks `judgeOf`.
+-- What a name is, and the number that judges one. Every layer that meets a name or a query asks `judgeOf`, or puts `nameCases` among its own cases.
 -- Assumes nothing.
-use mathlib.Core.Bool.{cond}
-use mathlib.Core.List.{List}
+use mathlib.Core.List.{List, [], _∷_}
 use Prim.Native.Nat.{ℕ}
 use lib.ListN.{length}
 use lib.Dec.{eqb, ltb}
 use Rattle.laws.specs.Lists.{member}
+use Rattle.laws.specs.Cases.{Case, case, firstCase}
 
 -- the most bytes that a name has
 abbrev pub longest : ℕ
 longest = 64
 
--- 1 for no byte at all, then 2 for more than the longest, then 3 for a 0 byte anywhere; 0 for a good name
+-- the refusals of a name, in the order in which they are judged: no byte at all, more than the longest, a 0 byte anywhere
+abbrev pub nameCases : List ℕ → List Case
+nameCases s = case 1 (eqb (length s) 0) ∷ case 2 (ltb longest (length s)) ∷ case 3 (member 0 s) ∷ []
+
+-- the number of a name: the first refusal that applies, or 0 for a good name
 unfoldable pub judgeOf : List ℕ → ℕ
-judgeOf s = cond (eqb (length s) 0) 1 (cond (ltb longest (length s)) 2 (cond (member 0 s) 3 0))
+judgeOf s = firstCase (nameCases s)

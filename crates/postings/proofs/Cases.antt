@@ -3,6 +3,7 @@
 use mathlib.Core.Path.{_≡_, refl}
 use mathlib.Core.Bool.{true}
 use mathlib.Core.List.{List, [], _∷_}
+use Rattle.laws.specs.Cases.{firstCase}
 use Rattle.laws.specs.Lists.{member, countOf, tabulate}
 use Rattle.laws.specs.Below.{allBelow, anyBelow, sumBelow}
 use Rattle.laws.specs.First.{firstFrom}
@@ -22,10 +23,10 @@ three =
     ∷ []
 
 three-good : goodOf (wordsOf three) ≡ true
-unfolding goodOf headGood nameGood namesGood rowBefore placeDue rowGood rowsGood isName listGood listsWith listsGood nameWord nameId nameSize rowSize rowFeature rowPlace rowLength posting listAt triplesOf allTriples joinRow runsOf listsOf rowWords wordsFrom rowsOf wordsOf insert sortOf member countOf tabulate allBelow anyBelow sumBelow judgeOf padded joined gramAt timesIn numberAt numbered featuresBy featuresOf
+unfolding goodOf headGood nameGood namesGood rowBefore placeDue rowGood rowsGood isName listGood listsWith listsGood nameWord nameId nameSize rowSize rowFeature rowPlace rowLength posting listAt triplesOf allTriples joinRow runsOf listsOf rowWords wordsFrom rowsOf wordsOf insert sortOf member countOf tabulate allBelow anyBelow sumBelow firstCase judgeOf padded joined gramAt timesIn numberAt numbered featuresBy featuresOf
 three-good = refl
 
 -- ANE stands in LANES and PLANE, both of size 7
 ane-list : listIn (wordsOf three) 7 1095648513 ≡ 11 ∷ 12 ∷ []
-unfolding firstFrom rowIs rowFor listIn nameWord nameId nameSize rowSize rowFeature rowPlace rowLength posting listAt triplesOf allTriples joinRow runsOf listsOf rowWords wordsFrom rowsOf wordsOf insert sortOf member countOf tabulate allBelow anyBelow sumBelow judgeOf padded joined gramAt timesIn numberAt numbered featuresBy featuresOf
+unfolding firstFrom rowIs rowFor listIn nameWord nameId nameSize rowSize rowFeature rowPlace rowLength posting listAt triplesOf allTriples joinRow runsOf listsOf rowWords wordsFrom rowsOf wordsOf insert sortOf member countOf tabulate allBelow anyBelow sumBelow firstCase judgeOf padded joined gramAt timesIn numberAt numbered featuresBy featuresOf
 ane-list = refl

@@ -6,6 +6,7 @@ use Prim.Native.Nat.{ℕ, zero, suc, _+_, _/_, _%_}
 use lib.ListN.{length, replicate}
 use Rattle.laws.specs.Lists.{member, tabulate, sumOf}
 use Rattle.laws.specs.Sort.{insert, sortOf}
+use Rattle.laws.specs.Cases.{firstCase}
 use Rattle.names.specs.Names.{judgeOf}
 use Rattle.names.specs.Features.{padded, joined, gramAt, timesIn, numberAt, numbered, featuresBy, featuresOf}
 use Rattle.hex.specs.Lines.{digitOf, placeIn, valueOf, isDigit, hexOf, hexLine, wellFormed, bytesOf}
@@ -31,47 +32,47 @@ plane = line (0 ∷ 12 ∷ 5 ∷ 80 ∷ 76 ∷ 65 ∷ 78 ∷ 69 ∷ [])
 
 -- no lines: three words 0, and a blank
 empty : wordsAfter [] (7 ∷ 7 ∷ 7 ∷ 7 ∷ []) ≡ 0 ∷ 0 ∷ 0 ∷ blank ∷ []
-unfolding joinLine linesOf nextFrom judgeLine takeLines takenOf builtOf wordsAfter triplesOf allTriples joinRow runsOf listsOf rowWords wordsFrom rowsOf wordsOf insert sortOf member tabulate sumOf judgeOf padded joined gramAt timesIn numberAt numbered featuresBy featuresOf digitOf placeIn valueOf isDigit hexOf hexLine wellFormed bytesOf numberOf headSize nameSize laidOut isFrame fieldsOf fieldsIn nameIn
+unfolding joinLine linesOf nextFrom firstCase judgeLine takeLines takenOf builtOf wordsAfter triplesOf allTriples joinRow runsOf listsOf rowWords wordsFrom rowsOf wordsOf insert sortOf member tabulate sumOf judgeOf padded joined gramAt timesIn numberAt numbered featuresBy featuresOf digitOf placeIn valueOf isDigit hexOf hexLine wellFormed bytesOf numberOf headSize nameSize laidOut isFrame fieldsOf fieldsIn nameIn
 empty = refl
 
 -- three names
 three : builtOf (lane ++ lanes ++ plane) 99 ≡ record { number = 0; line = 0 }
-unfolding joinLine linesOf nextFrom judgeLine takeLines takenOf builtOf wordsAfter triplesOf allTriples joinRow runsOf listsOf rowWords wordsFrom rowsOf wordsOf insert sortOf member tabulate sumOf judgeOf padded joined gramAt timesIn numberAt numbered featuresBy featuresOf digitOf placeIn valueOf isDigit hexOf hexLine wellFormed bytesOf numberOf headSize nameSize laidOut isFrame fieldsOf fieldsIn nameIn
+unfolding joinLine linesOf nextFrom firstCase judgeLine takeLines takenOf builtOf wordsAfter triplesOf allTriples joinRow runsOf listsOf rowWords wordsFrom rowsOf wordsOf insert sortOf member tabulate sumOf judgeOf padded joined gramAt timesIn numberAt numbered featuresBy featuresOf digitOf placeIn valueOf isDigit hexOf hexLine wellFormed bytesOf numberOf headSize nameSize laidOut isFrame fieldsOf fieldsIn nameIn
 three = refl
 
 -- a last stretch without a line feed
 malformed : builtOf (lane ++ (52 ∷ [])) 99 ≡ record { number = 11; line = 2 }
-unfolding joinLine linesOf nextFrom judgeLine takeLines takenOf builtOf wordsAfter triplesOf allTriples joinRow runsOf listsOf rowWords wordsFrom rowsOf wordsOf insert sortOf member tabulate sumOf judgeOf padded joined gramAt timesIn numberAt numbered featuresBy featuresOf digitOf placeIn valueOf isDigit hexOf hexLine wellFormed bytesOf numberOf headSize nameSize laidOut isFrame fieldsOf fieldsIn nameIn
+unfolding joinLine linesOf nextFrom firstCase judgeLine takeLines takenOf builtOf wordsAfter triplesOf allTriples joinRow runsOf listsOf rowWords wordsFrom rowsOf wordsOf insert sortOf member tabulate sumOf judgeOf padded joined gramAt timesIn numberAt numbered featuresBy featuresOf digitOf placeIn valueOf isDigit hexOf hexLine wellFormed bytesOf numberOf headSize nameSize laidOut isFrame fieldsOf fieldsIn nameIn
 malformed = refl
 
 -- a line of a line feed alone
 blank-line : builtOf (10 ∷ lane) 99 ≡ record { number = 11; line = 1 }
-unfolding joinLine linesOf nextFrom judgeLine takeLines takenOf builtOf wordsAfter triplesOf allTriples joinRow runsOf listsOf rowWords wordsFrom rowsOf wordsOf insert sortOf member tabulate sumOf judgeOf padded joined gramAt timesIn numberAt numbered featuresBy featuresOf digitOf placeIn valueOf isDigit hexOf hexLine wellFormed bytesOf numberOf headSize nameSize laidOut isFrame fieldsOf fieldsIn nameIn
+unfolding joinLine linesOf nextFrom firstCase judgeLine takeLines takenOf builtOf wordsAfter triplesOf allTriples joinRow runsOf listsOf rowWords wordsFrom rowsOf wordsOf insert sortOf member tabulate sumOf judgeOf padded joined gramAt timesIn numberAt numbered featuresBy featuresOf digitOf placeIn valueOf isDigit hexOf hexLine wellFormed bytesOf numberOf headSize nameSize laidOut isFrame fieldsOf fieldsIn nameIn
 blank-line = refl
 
 -- a name of no bytes
 no-name : builtOf (lane ++ line (0 ∷ 11 ∷ 0 ∷ [])) 99 ≡ record { number = 1; line = 2 }
-unfolding joinLine linesOf nextFrom judgeLine takeLines takenOf builtOf wordsAfter triplesOf allTriples joinRow runsOf listsOf rowWords wordsFrom rowsOf wordsOf insert sortOf member tabulate sumOf judgeOf padded joined gramAt timesIn numberAt numbered featuresBy featuresOf digitOf placeIn valueOf isDigit hexOf hexLine wellFormed bytesOf numberOf headSize nameSize laidOut isFrame fieldsOf fieldsIn nameIn
+unfolding joinLine linesOf nextFrom firstCase judgeLine takeLines takenOf builtOf wordsAfter triplesOf allTriples joinRow runsOf listsOf rowWords wordsFrom rowsOf wordsOf insert sortOf member tabulate sumOf judgeOf padded joined gramAt timesIn numberAt numbered featuresBy featuresOf digitOf placeIn valueOf isDigit hexOf hexLine wellFormed bytesOf numberOf headSize nameSize laidOut isFrame fieldsOf fieldsIn nameIn
 no-name = refl
 
 -- a name of 65 bytes
 long-name : builtOf (line (0 ∷ 11 ∷ 65 ∷ replicate 65 65)) 99 ≡ record { number = 2; line = 1 }
-unfolding joinLine linesOf nextFrom judgeLine takeLines takenOf builtOf wordsAfter triplesOf allTriples joinRow runsOf listsOf rowWords wordsFrom rowsOf wordsOf insert sortOf member tabulate sumOf judgeOf padded joined gramAt timesIn numberAt numbered featuresBy featuresOf digitOf placeIn valueOf isDigit hexOf hexLine wellFormed bytesOf numberOf headSize nameSize laidOut isFrame fieldsOf fieldsIn nameIn
+unfolding joinLine linesOf nextFrom firstCase judgeLine takeLines takenOf builtOf wordsAfter triplesOf allTriples joinRow runsOf listsOf rowWords wordsFrom rowsOf wordsOf insert sortOf member tabulate sumOf judgeOf padded joined gramAt timesIn numberAt numbered featuresBy featuresOf digitOf placeIn valueOf isDigit hexOf hexLine wellFormed bytesOf numberOf headSize nameSize laidOut isFrame fieldsOf fieldsIn nameIn
 long-name = refl
 
 -- a 0 byte
 zero-byte : builtOf (line (0 ∷ 11 ∷ 1 ∷ 0 ∷ [])) 99 ≡ record { number = 3; line = 1 }
-unfolding joinLine linesOf nextFrom judgeLine takeLines takenOf builtOf wordsAfter triplesOf allTriples joinRow runsOf listsOf rowWords wordsFrom rowsOf wordsOf insert sortOf member tabulate sumOf judgeOf padded joined gramAt timesIn numberAt numbered featuresBy featuresOf digitOf placeIn valueOf isDigit hexOf hexLine wellFormed bytesOf numberOf headSize nameSize laidOut isFrame fieldsOf fieldsIn nameIn
+unfolding joinLine linesOf nextFrom firstCase judgeLine takeLines takenOf builtOf wordsAfter triplesOf allTriples joinRow runsOf listsOf rowWords wordsFrom rowsOf wordsOf insert sortOf member tabulate sumOf judgeOf padded joined gramAt timesIn numberAt numbered featuresBy featuresOf digitOf placeIn valueOf isDigit hexOf hexLine wellFormed bytesOf numberOf headSize nameSize laidOut isFrame fieldsOf fieldsIn nameIn
 zero-byte = refl
 
 -- the same id again
 same-id : builtOf (lane ++ lane) 99 ≡ record { number = 9; line = 2 }
-unfolding joinLine linesOf nextFrom judgeLine takeLines takenOf builtOf wordsAfter triplesOf allTriples joinRow runsOf listsOf rowWords wordsFrom rowsOf wordsOf insert sortOf member tabulate sumOf judgeOf padded joined gramAt timesIn numberAt numbered featuresBy featuresOf digitOf placeIn valueOf isDigit hexOf hexLine wellFormed bytesOf numberOf headSize nameSize laidOut isFrame fieldsOf fieldsIn nameIn
+unfolding joinLine linesOf nextFrom firstCase judgeLine takeLines takenOf builtOf wordsAfter triplesOf allTriples joinRow runsOf listsOf rowWords wordsFrom rowsOf wordsOf insert sortOf member tabulate sumOf judgeOf padded joined gramAt timesIn numberAt numbered featuresBy featuresOf digitOf placeIn valueOf isDigit hexOf hexLine wellFormed bytesOf numberOf headSize nameSize laidOut isFrame fieldsOf fieldsIn nameIn
 same-id = refl
 
 -- the first bad line decides
 first-decides : builtOf (lane ++ lane ++ (10 ∷ [])) 99 ≡ record { number = 9; line = 2 }
-unfolding joinLine linesOf nextFrom judgeLine takeLines takenOf builtOf wordsAfter triplesOf allTriples joinRow runsOf listsOf rowWords wordsFrom rowsOf wordsOf insert sortOf member tabulate sumOf judgeOf padded joined gramAt timesIn numberAt numbered featuresBy featuresOf digitOf placeIn valueOf isDigit hexOf hexLine wellFormed bytesOf numberOf headSize nameSize laidOut isFrame fieldsOf fieldsIn nameIn
+unfolding joinLine linesOf nextFrom firstCase judgeLine takeLines takenOf builtOf wordsAfter triplesOf allTriples joinRow runsOf listsOf rowWords wordsFrom rowsOf wordsOf insert sortOf member tabulate sumOf judgeOf padded joined gramAt timesIn numberAt numbered featuresBy featuresOf digitOf placeIn valueOf isDigit hexOf hexLine wellFormed bytesOf numberOf headSize nameSize laidOut isFrame fieldsOf fieldsIn nameIn
 first-decides = refl
 
 -- the lines of names of one byte under the ids from i on, k of them
@@ -81,15 +82,15 @@ crowd i (suc k) = line (i / 256 ∷ i % 256 ∷ 1 ∷ 65 ∷ []) ++ crowd (i + 1
 
 -- a 257th name
 many : builtOf (crowd 0 257) 99 ≡ record { number = 10; line = 257 }
-unfolding joinLine linesOf nextFrom judgeLine takeLines takenOf builtOf wordsAfter triplesOf allTriples joinRow runsOf listsOf rowWords wordsFrom rowsOf wordsOf insert sortOf member tabulate sumOf judgeOf padded joined gramAt timesIn numberAt numbered featuresBy featuresOf digitOf placeIn valueOf isDigit hexOf hexLine wellFormed bytesOf numberOf headSize nameSize laidOut isFrame fieldsOf fieldsIn nameIn crowd
+unfolding joinLine linesOf nextFrom firstCase judgeLine takeLines takenOf builtOf wordsAfter triplesOf allTriples joinRow runsOf listsOf rowWords wordsFrom rowsOf wordsOf insert sortOf member tabulate sumOf judgeOf padded joined gramAt timesIn numberAt numbered featuresBy featuresOf digitOf placeIn valueOf isDigit hexOf hexLine wellFormed bytesOf numberOf headSize nameSize laidOut isFrame fieldsOf fieldsIn nameIn crowd
 many = refl
 
 -- 3 + 1 + 4 × 6 + 6 words are 34
 small : builtOf lane 33 ≡ record { number = 8; line = 0 }
-unfolding joinLine linesOf nextFrom judgeLine takeLines takenOf builtOf wordsAfter triplesOf allTriples joinRow runsOf listsOf rowWords wordsFrom rowsOf wordsOf insert sortOf member tabulate sumOf judgeOf padded joined gramAt timesIn numberAt numbered featuresBy featuresOf digitOf placeIn valueOf isDigit hexOf hexLine wellFormed bytesOf numberOf headSize nameSize laidOut isFrame fieldsOf fieldsIn nameIn
+unfolding joinLine linesOf nextFrom firstCase judgeLine takeLines takenOf builtOf wordsAfter triplesOf allTriples joinRow runsOf listsOf rowWords wordsFrom rowsOf wordsOf insert sortOf member tabulate sumOf judgeOf padded joined gramAt timesIn numberAt numbered featuresBy featuresOf digitOf placeIn valueOf isDigit hexOf hexLine wellFormed bytesOf numberOf headSize nameSize laidOut isFrame fieldsOf fieldsIn nameIn
 small = refl
 
 -- and just fit
 just : builtOf lane 34 ≡ record { number = 0; line = 0 }
-unfolding joinLine linesOf nextFrom judgeLine takeLines takenOf builtOf wordsAfter triplesOf allTriples joinRow runsOf listsOf rowWords wordsFrom rowsOf wordsOf insert sortOf member tabulate sumOf judgeOf padded joined gramAt timesIn numberAt numbered featuresBy featuresOf digitOf placeIn valueOf isDigit hexOf hexLine wellFormed bytesOf numberOf headSize nameSize laidOut isFrame fieldsOf fieldsIn nameIn
+unfolding joinLine linesOf nextFrom firstCase judgeLine takeLines takenOf builtOf wordsAfter triplesOf allTriples joinRow runsOf listsOf rowWords wordsFrom rowsOf wordsOf insert sortOf member tabulate sumOf judgeOf padded joined gramAt timesIn numberAt numbered featuresBy featuresOf digitOf placeIn valueOf isDigit hexOf hexLine wellFormed bytesOf numberOf headSize nameSize laidOut isFrame fieldsOf fieldsIn nameIn
 just = refl

@@ -2,14 +2,16 @@
 -- Assumes nothing.
 use mathlib.Core.Path.{_≡_, refl, sym, ap, _∙_}
 use mathlib.Core.Bool.{Bool, true, false, cond, not}
-use mathlib.Core.List.{List, _++_}
+use mathlib.Core.List.{List, [], _∷_, _++_}
 use Prim.Native.Nat.{ℕ, _≤_, _<_}
 use native.Mathlib.Omega.{arith}
 use borrow.Author.Tests.{eq-eqb, ne-eqb, lt-ltb, le-ltb, le-leb, lt-leb, eqb-true, eqb-false, ltb-false, leb-false}
 use lib.ListN.{length, getD, take, drop, length-append, length-drop}
 use lib.Seq.{take-append-seam}
 use lib.Dec.{eqb, ltb, leb}
-use Rattle.names.specs.Names.{judgeOf}
+use Rattle.laws.specs.Cases.{Case, case, firstCase, allNumbers, allNumbered}
+use Rattle.laws.proofs.Cases.{not-false, first-here, first-next, first-passed, first-front, first-behind, first-split}
+use Rattle.names.specs.Names.{nameCases, judgeOf}
 use Rattle.layouts.specs.declared.Reading.{Reading}
 use Rattle.layouts.specs.Layouts.{isFrame, readOf, bufferOf, acceptedAs, refusedWith}
 use Rattle.layouts.proofs.Laws.{read-roomy, read-fits}
@@ -21,44 +23,64 @@ use Rattle.register.specs.Steps.{Heard}
 
 -- ---- the number of a line
 
+-- the cases of a line behind those of its name
+behind : ℕ → ℕ → List ℕ → List Case
+behind count next line = case 9 (ltb (idIn line) next) ∷ case 10 (leb mostNames count) ∷ []
+
+names-numbered : (s : List ℕ) → allNumbered (nameCases s) ≡ true
+unfolding allNumbers
+names-numbered s = refl
+
 pub judged-malformed : (count next : ℕ) (line : List ℕ) → isFrame nameFrame line ≡ false → judgeLine count next line ≡ 11
 unfolding judgeLine
-judged-malformed count next line e = rw e
+judged-malformed count next line e = first-here 11 (not (isFrame nameFrame line)) _ (ap not e)
 
 module _ (count next : ℕ) (line : List ℕ) (frame : isFrame nameFrame line ≡ true) where
+  -- the name decides, and the cases behind it
+  framed : judgeLine count next line ≡ firstCase (nameCases (nameOf line) ++ behind count next line)
+  unfolding judgeLine behind
+  framed = first-next 11 (not (isFrame nameFrame line)) (nameCases (nameOf line) ++ behind count next line) (ap not frame)
+
   pub judged-name : (judgeOf (nameOf line) ≡ 0 → ⊥) → judgeLine count next line ≡ judgeOf (nameOf line)
-  unfolding judgeLine
-  judged-name n = rw (frame, ne-eqb (judgeOf (nameOf line)) 0 n)
+  unfolding judgeOf
+  judged-name n = framed ∙ first-front (nameCases (nameOf line)) (behind count next line) n
+
+  named : judgeOf (nameOf line) ≡ 0 → judgeLine count next line ≡ firstCase (behind count next line)
+  unfolding judgeOf
+  named g = framed ∙ first-behind (nameCases (nameOf line)) (behind count next line) (names-numbered (nameOf line)) g
 
   pub judged-id : judgeOf (nameOf line) ≡ 0 → idIn line < next → judgeLine count next line ≡ 9
-  unfolding judgeLine
-  judged-id g h = rw (frame, eq-eqb (judgeOf (nameOf line)) 0 g, lt-ltb (idIn line) next h)
+  unfolding behind
+  judged-id g h = named g ∙ first-here 9 (ltb (idIn line) next) (case 10 (leb mostNames count) ∷ []) (lt-ltb (idIn line) next h)
 
   pub judged-count : judgeOf (nameOf line) ≡ 0 → next ≤ idIn line → mostNames ≤ count → judgeLine count next line ≡ 10
-  unfolding judgeLine
-  judged-count g h m = rw (frame, eq-eqb (judgeOf (nameOf line)) 0 g, le-ltb (idIn line) next h, le-leb mostNames count m)
+  unfolding behind
+  judged-count g h m =
+      named g
+      ∙ first-next 9 (ltb (idIn line) next) (case 10 (leb mostNames count) ∷ []) (le-ltb (idIn line) next h)
+      ∙ first-here 10 (leb mostNames count) [] (le-leb mostNames count m)
 
   pub judged-good : judgeOf (nameOf line) ≡ 0 → next ≤ idIn line → count < mostNames → judgeLine count next line ≡ 0
-  unfolding judgeLine
-  judged-good g h m = rw (frame, eq-eqb (judgeOf (nameOf line)) 0 g, le-ltb (idIn line) next h, lt-leb mostNames count m)
+  unfolding behind
+  judged-good g h m =
+      named g
+      ∙ first-next 9 (ltb (idIn line) next) (case 10 (leb mostNames count) ∷ []) (le-ltb (idIn line) next h)
+      ∙ first-next 10 (leb mostNames count) [] (lt-leb mostNames count m)
+      ∙ none
+    where
+      none : firstCase [] ≡ 0
+      none = unfold firstCase in refl
 
 -- what a line that is judged 0 is
 pub good-line : (count next : ℕ) (line : List ℕ) → judgeLine count next line ≡ 0
     → (isFrame nameFrame line ≡ true) × (judgeOf (nameOf line) ≡ 0) × (next ≤ idIn line) × (count < mostNames)
-unfolding judgeLine
+unfolding judgeLine judgeOf behind
 good-line count next line z =
-    by-tests (isFrame nameFrame line) refl (eqb (judgeOf (nameOf line)) 0) refl (ltb (idIn line) next) refl (leb mostNames count) refl z
-  where
-    by-tests : (a : Bool) → isFrame nameFrame line ≡ a → (b : Bool) → eqb (judgeOf (nameOf line)) 0 ≡ b → (c : Bool) → ltb (idIn line) next ≡ c
-        → (d : Bool) → leb mostNames count ≡ d
-        → cond (not a) 11 (cond (not b) (judgeOf (nameOf line)) (cond c 9 (cond d 10 0))) ≡ 0
-        → (isFrame nameFrame line ≡ true) × (judgeOf (nameOf line) ≡ 0) × (next ≤ idIn line) × (count < mostNames)
-    by-tests false p b q c r d s z = absurd (omega arith)
-    by-tests true p false q c r d s z = absurd (eqb-false (judgeOf (nameOf line)) 0 q z)
-    by-tests true p true q true r d s z = absurd (omega arith)
-    by-tests true p true q false r true s z = absurd (omega arith)
-    by-tests true p true q false r false s z =
-        (p, eqb-true (judgeOf (nameOf line)) 0 q, ltb-false (idIn line) next r, leb-false mostNames count s)
+    let f = first-passed 11 (not (isFrame nameFrame line)) (nameCases (nameOf line) ++ behind count next line) (λ e. omega arith) z in
+    let n = first-split (nameCases (nameOf line)) (behind count next line) (names-numbered (nameOf line)) (f .1) in
+    let i = first-passed 9 (ltb (idIn line) next) (case 10 (leb mostNames count) ∷ []) (λ e. omega arith) (n .1) in
+    let c = first-passed 10 (leb mostNames count) [] (λ e. omega arith) (i .1) in
+    (not-false (isFrame nameFrame line) (f .0), n .0, ltb-false (idIn line) next (i .0), leb-false mostNames count (c .0))
 
 -- ---- a line that was read into a buffer of 255 bytes
 

@@ -1,12 +1,13 @@
 -- Building an index from a register: the judging of a line, the names of all lines, and what a build answers and leaves in the words.
--- The order in which a line is judged is `judgeLine` alone: a test more is a line more there.
+-- The order in which a line is judged is `lineCases` alone.
 -- Assumes nothing.
 use mathlib.Core.Bool.{Bool, cond, not}
 use mathlib.Core.List.{List, [], _∷_, _++_, map}
 use Prim.Native.Nat.{ℕ, _+_, _-_}
 use lib.ListN.{length, getD, take, replicate}
 use lib.Dec.{eqb, leb, ltb}
-use Rattle.names.specs.Names.{judgeOf}
+use Rattle.laws.specs.Cases.{Case, case, firstCase}
+use Rattle.names.specs.Names.{nameCases}
 use Rattle.names.specs.Features.{featuresOf}
 use Rattle.layouts.specs.Layouts.{isFrame, fieldsIn, nameIn}
 use Rattle.frames.specs.Frames.{nameFrame}
@@ -34,14 +35,15 @@ nextFrom n (e ∷ es) = nextFrom (e .id + 1) es
 abbrev pub nextId : List Entry → ℕ
 nextId es = nextFrom 0 es
 
--- the number of a line behind `count` names, whose id has to be at least `next`; the first test that it fails decides, and 0 is a good line
+-- the refusals of a line behind `count` names, whose id has to be at least `next`, in the order in which they are judged: no 4E frame, the name's, an id
+-- that is not above the one before, one name too many
+abbrev pub lineCases : ℕ → ℕ → List ℕ → List Case
+lineCases count next line =
+    case 11 (not (isFrame nameFrame line)) ∷ (nameCases (nameOf line) ++ (case 9 (ltb (idIn line) next) ∷ case 10 (leb mostNames count) ∷ []))
+
+-- the number of the line: the first that applies, or 0 for a good line
 unfoldable pub judgeLine : ℕ → ℕ → List ℕ → ℕ
-judgeLine count next line =
-    cond (not (isFrame nameFrame line)) 11
-    (cond (not (eqb (judgeOf (nameOf line)) 0)) (judgeOf (nameOf line))
-    (cond (ltb (idIn line) next) 9
-    (cond (leb mostNames count) 10
-    0)))
+judgeLine count next line = firstCase (lineCases count next line)
 
 -- the name of a good line with its features
 abbrev pub entryOf : List ℕ → Entry

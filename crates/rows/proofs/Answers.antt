@@ -21,7 +21,8 @@ use Rattle.words.specs.Words.{nameCount, nameId, nameSize}
 use Rattle.index.specs.Good.{mostNames, goodOf}
 use Rattle.index.proofs.Laws.{good-names-most}
 use Rattle.search.specs.Method.{sharedWith, touchesOf, listed, answersBelow, answersOf}
-use Rattle.search.specs.Answers.{rowsIn, questionOf, refusalOf, searchGoodOf, searchOf, givenBy, roomOf, over, idColumn, sharedColumn, sizeColumn}
+use Rattle.search.specs.Answers.{rowsIn, refusalOf, searchGoodOf, searchOf, givenBy, roomOf, over, idColumn, sharedColumn, sizeColumn}
+use Rattle.search.proofs.Found.{asked}
 use Rattle.search.specs.declared.Answer.{Answer}
 use Rattle.search.specs.declared.Answer.the-variants.{Found, Refused}
 use Rattle.rows.specs.declared.Row.{Row}
@@ -52,15 +53,7 @@ module _ (w : List ℕ) (m p q : ℕ) (query : List ℕ) where
 
 -- what is not refused before the search is asked of a good index
 refusal-good : (s : List ℕ) (m p q : ℕ) (w : List ℕ) → refusalOf s m p q w ≡ 0 → goodOf w ≡ true
-unfolding refusalOf
-refusal-good s m p q w e = by-number (questionOf s m p q) (goodOf w) e
-  where
-    by-number : (n : ℕ) (b : Bool) → cond (eqb n 0) (cond b 0 6) n ≡ 0 → b ≡ true
-    by-number zero true e = refl
-    by-number zero false e = absurd (omega arith)
-    by-number (suc n) b e =
-        let z : suc n ≡ 0 = ap (λ (t : Bool). cond t (cond b 0 6) (suc n)) (sym (ne-eqb (suc n) 0 (λ (h : suc n ≡ 0). omega arith))) ∙ e in
-        absurd (omega arith)
+refusal-good s m p q w e = asked s m p q w e .good
 
 module _ (s : List ℕ) (m p q allowance : ℕ) (w : List ℕ) where
   abbrev answers : List ℕ

@@ -1,15 +1,17 @@
 -- The cases of an answer, as the definition sets them out. Cited by the proofs of `run`, `search_good` and `search`.
 -- Assumes nothing.
 use mathlib.Core.Path.{_≡_, refl, sym, ap, _∙_}
-use mathlib.Core.Bool.{Bool, true, false, cond}
-use mathlib.Core.List.{List, []}
+use mathlib.Core.Bool.{Bool, true, false, cond, not}
+use mathlib.Core.List.{List, [], _∷_}
 use Prim.Native.Nat.{ℕ, zero, suc, _+_, _-_}
 use native.Mathlib.Nat.{add-sub-cancel-left}
 use native.Mathlib.Omega.{arith}
 use lib.ListN.{length, take, drop}
 use lib.Dec.{ltb, eqb}
 use borrow.Author.Tests.{eq-eqb, ne-eqb}
-use Rattle.names.specs.Names.{judgeOf}
+use Rattle.laws.specs.Cases.{Case, case, firstCase, allNumbers, allNumbered}
+use Rattle.laws.proofs.Cases.{not-false, first-here, first-next, first-passed, first-front, first-behind, first-split}
+use Rattle.names.specs.Names.{nameCases, judgeOf}
 use Rattle.names.specs.Features.{featuresOf}
 use Rattle.likeness.specs.Measures.{goodMeasure, goodThreshold}
 use Rattle.likeness.specs.Terms.{lowestTerms}
@@ -17,7 +19,7 @@ use Rattle.words.specs.Words.{nameCount, namesStart}
 use Rattle.index.specs.Good.{goodOf}
 use Rattle.search.specs.Method.{touchesOf, answersOf}
 use Rattle.search.specs.Tables.{nameWords}
-use Rattle.search.specs.Answers.{questionOf, refusalOf, searchGoodOf, searchOf}
+use Rattle.search.specs.Answers.{questionCases, questionOf, refusalOf, searchGoodOf, searchOf}
 use Rattle.search.specs.declared.Answer.{Answer}
 use Rattle.search.specs.declared.Answer.the-variants.{Found, Refused}
 
@@ -53,45 +55,70 @@ module _ (s : List ℕ) (m p q allowance : ℕ) (w : List ℕ) (room : ℕ) wher
 
 -- ---- the order of refusals
 
-unrefused : (n : ℕ) (a b : Bool) → cond (eqb n 0) (cond a (cond b 0 5) 4) n ≡ 0 → (n ≡ 0) × (a ≡ true) × (b ≡ true)
-unrefused zero true true e = (refl, refl, refl)
-unrefused zero true false e = absurd (omega arith)
-unrefused zero false b e = absurd (omega arith)
-unrefused (suc n) a b e =
-    let z : suc n ≡ 0 = ap (λ (t : Bool). cond t (cond a (cond b 0 5) 4) (suc n)) (sym (ne-eqb (suc n) 0 (λ (h : suc n ≡ 0). omega arith))) ∙ e in
-    absurd (omega arith)
+-- the cases of a question behind those of its query
+behind : ℕ → ℕ → ℕ → List Case
+behind m p q = case 4 (not (goodMeasure m)) ∷ case 5 (not (goodThreshold p q)) ∷ []
+
+names-numbered : (s : List ℕ) → allNumbered (nameCases s) ≡ true
+unfolding allNumbers
+names-numbered s = refl
+
+questions-numbered : (s : List ℕ) (m p q : ℕ) → allNumbered (questionCases s m p q) ≡ true
+unfolding allNumbers
+questions-numbered s m p q = refl
 
 module _ (s : List ℕ) (m p q : ℕ) where
   pub question-name : (judgeOf s ≡ 0 → ⊥) → questionOf s m p q ≡ judgeOf s
-  unfolding questionOf
-  question-name n = rw (ne-eqb (judgeOf s) 0 n)
+  unfolding questionOf judgeOf behind
+  question-name n = first-front (nameCases s) (behind m p q) n
+
+  -- where the query is good, the cases behind it decide
+  good-query : judgeOf s ≡ 0 → questionOf s m p q ≡ firstCase (behind m p q)
+  unfolding questionOf judgeOf behind
+  good-query n = first-behind (nameCases s) (behind m p q) (names-numbered s) n
 
   pub question-measure : judgeOf s ≡ 0 → goodMeasure m ≡ false → questionOf s m p q ≡ 4
-  unfolding questionOf
-  question-measure n a = rw (eq-eqb (judgeOf s) 0 n, a)
+  question-measure n a = good-query n ∙ decided
+    where
+      decided : firstCase (behind m p q) ≡ 4
+      decided = unfold behind firstCase in rw a refl
 
   pub question-threshold : judgeOf s ≡ 0 → goodMeasure m ≡ true → goodThreshold p q ≡ false → questionOf s m p q ≡ 5
-  unfolding questionOf
-  question-threshold n a b = rw (eq-eqb (judgeOf s) 0 n, a, b)
+  question-threshold n a b = good-query n ∙ decided
+    where
+      decided : firstCase (behind m p q) ≡ 5
+      decided = unfold behind firstCase in rw (a, b) refl
 
   pub question-none : judgeOf s ≡ 0 → goodMeasure m ≡ true → goodThreshold p q ≡ true → questionOf s m p q ≡ 0
-  unfolding questionOf
-  question-none n a b = rw (eq-eqb (judgeOf s) 0 n, a, b)
+  question-none n a b = good-query n ∙ decided
+    where
+      decided : firstCase (behind m p q) ≡ 0
+      decided = unfold behind firstCase in rw (a, b) refl
 
   -- a question that is not refused has a good query, measure and threshold
   pub question-good : questionOf s m p q ≡ 0 → (judgeOf s ≡ 0) × (goodMeasure m ≡ true) × (goodThreshold p q ≡ true)
-  unfolding questionOf
-  question-good e = unrefused (judgeOf s) (goodMeasure m) (goodThreshold p q) e
+  unfolding questionOf judgeOf behind
+  question-good e =
+      let h = first-split (nameCases s) (behind m p q) (names-numbered s) e in
+      let a = first-passed 4 (not (goodMeasure m)) (case 5 (not (goodThreshold p q)) ∷ []) (λ z. omega arith) (h .1) in
+      let b = first-passed 5 (not (goodThreshold p q)) [] (λ z. omega arith) (a .1) in
+      (h .0, not-false (goodMeasure m) (a .0), not-false (goodThreshold p q) (b .0))
 
 module _ (s : List ℕ) (m p q : ℕ) (w : List ℕ) where
   pub refusal-question : (questionOf s m p q ≡ 0 → ⊥) → refusalOf s m p q w ≡ questionOf s m p q
-  unfolding refusalOf
-  refusal-question n = rw (ne-eqb (questionOf s m p q) 0 n)
+  unfolding refusalOf questionOf
+  refusal-question n = first-front (questionCases s m p q) (case 6 (not (goodOf w)) ∷ []) n
+
+  -- where the question is good, the index decides
+  good-question : questionOf s m p q ≡ 0 → refusalOf s m p q w ≡ firstCase (case 6 (not (goodOf w)) ∷ [])
+  unfolding refusalOf questionOf
+  good-question n = first-behind (questionCases s m p q) (case 6 (not (goodOf w)) ∷ []) (questions-numbered s m p q) n
 
   pub refusal-index : questionOf s m p q ≡ 0 → goodOf w ≡ false → refusalOf s m p q w ≡ 6
-  unfolding refusalOf
-  refusal-index n g = rw (eq-eqb (questionOf s m p q) 0 n, g)
+  refusal-index n g = good-question n ∙ first-here 6 (not (goodOf w)) [] (ap not g)
 
   pub refusal-none : questionOf s m p q ≡ 0 → goodOf w ≡ true → refusalOf s m p q w ≡ 0
-  unfolding refusalOf
-  refusal-none n g = rw (eq-eqb (questionOf s m p q) 0 n, g)
+  refusal-none n g = good-question n ∙ first-next 6 (not (goodOf w)) [] (ap not g) ∙ none
+    where
+      none : firstCase [] ≡ 0
+      none = unfold firstCase in refl

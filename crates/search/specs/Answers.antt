@@ -1,11 +1,12 @@
 -- What a search answers: the order of refusals, the rows, and the number and values of each case.
 -- Assumes nothing.
-use mathlib.Core.Bool.{Bool, cond}
-use mathlib.Core.List.{List, [], _++_, map}
+use mathlib.Core.Bool.{Bool, cond, not}
+use mathlib.Core.List.{List, [], _∷_, _++_, map}
 use Prim.Native.Nat.{ℕ, min}
 use lib.ListN.{length, drop}
 use lib.Dec.{ltb, eqb}
-use Rattle.names.specs.Names.{judgeOf}
+use Rattle.laws.specs.Cases.{Case, case, firstCase}
+use Rattle.names.specs.Names.{nameCases}
 use Rattle.names.specs.Features.{featuresOf}
 use Rattle.likeness.specs.Measures.{goodMeasure, goodThreshold}
 use Rattle.likeness.specs.Terms.{lowestTerms}
@@ -40,16 +41,22 @@ abbrev pub thresholdQ : Answer → ℕ
 thresholdQ (Found rows touches p q) = q
 thresholdQ (Refused number touches) = 0
 
--- ---- what is judged before the search: the query's 1, 2, 3, then 4, 5, then the index's 6; 0 where nothing is refused
+-- ---- what is judged before the search
 
+-- the refusals of a question, in the order in which they are judged: the query's, then the measure, then the threshold
+abbrev pub questionCases : List ℕ → ℕ → ℕ → ℕ → List Case
+questionCases query m p q = nameCases query ++ (case 4 (not (goodMeasure m)) ∷ case 5 (not (goodThreshold p q)) ∷ [])
+
+-- the number of a question: the first refusal that applies, or 0
 unfoldable pub questionOf : List ℕ → ℕ → ℕ → ℕ → ℕ
-questionOf query m p q =
-    cond (eqb (judgeOf query) 0)
-    (cond (goodMeasure m) (cond (goodThreshold p q) 0 5) 4)
-    (judgeOf query)
+questionOf query m p q = firstCase (questionCases query m p q)
+
+-- the refusals of a search of any words before its work is counted: the question's, then the index
+abbrev pub refusalCases : List ℕ → ℕ → ℕ → ℕ → List ℕ → List Case
+refusalCases query m p q w = questionCases query m p q ++ (case 6 (not (goodOf w)) ∷ [])
 
 unfoldable pub refusalOf : List ℕ → ℕ → ℕ → ℕ → List ℕ → ℕ
-refusalOf query m p q w = cond (eqb (questionOf query m p q) 0) (cond (goodOf w) 0 6) (questionOf query m p q)
+refusalOf query m p q w = firstCase (refusalCases query m p q w)
 
 -- ---- the search of a good index: 7 where the touches exceed the allowance, then 8 where the answers exceed the room
 

@@ -2,12 +2,13 @@
 -- searches are refused alike.
 -- Assumes nothing.
 use mathlib.Core.Path.{_≡_, refl, sym, ap, ap₂, _∙_}
-use mathlib.Core.Bool.{Bool, true, false, cond}
-use mathlib.Core.List.{List}
+use mathlib.Core.Bool.{Bool, true, false, cond, not}
+use mathlib.Core.List.{List, [], _∷_, _++_}
 use Prim.Native.Nat.{ℕ, _≤_}
 use lib.ListN.{length, take}
 use lib.Dec.{eqb, ltb}
 use Rattle.laws.specs.Lists.{member}
+use Rattle.laws.specs.Cases.{case, firstCase}
 use Rattle.laws.proofs.Members.{member-nil}
 use Rattle.names.specs.Features.{featuresOf}
 use Rattle.likeness.specs.Terms.{lowestTerms}
@@ -15,7 +16,7 @@ use Rattle.words.specs.Words.{total}
 use Rattle.index.specs.Good.{goodOf}
 use Rattle.index.proofs.Laws.{verdict-total}
 use Rattle.index.proofs.Total.{id-same, size-same}
-use Rattle.search.specs.Answers.{questionOf, refusalOf, searchGoodOf, searchOf, givenBy}
+use Rattle.search.specs.Answers.{questionCases, refusalOf, searchGoodOf, searchOf, givenBy}
 use Rattle.search.specs.declared.Answer.{Answer}
 use Rattle.search.specs.declared.Answer.the-variants.{Found, Refused}
 use Rattle.search.proofs.Listed.{answer-place}
@@ -36,8 +37,7 @@ module _ {A : Type 0} (s : Lending A) (lends : Lends s) (a : Question A) (other 
   refusal-same : refusalOf (a .query) (a .measure) (a .p) (a .q) other ≡ refusalOf (a .query) (a .measure) (a .p) (a .q) (a .words)
   unfolding refusalOf
   refusal-same =
-      let n = questionOf (a .query) (a .measure) (a .p) (a .q) in
-      ap (λ (g : Bool). cond (eqb n 0) (cond g 0 6) n) (verdict-total (a .words) other same long)
+      ap (λ (g : Bool). firstCase (questionCases (a .query) (a .measure) (a .p) (a .q) ++ (case 6 (not g) ∷ []))) (verdict-total (a .words) other same long)
 
   good-same : goodOf (a .words) ≡ true → searchGoodOf (a .query) (a .measure) (a .p) (a .q) (a .allowance) other (s .room (a .lent))
       ≡ searchGoodOf (a .query) (a .measure) (a .p) (a .q) (a .allowance) (a .words) (s .room (a .lent))

@@ -1,25 +1,27 @@
 -- The demands hold: specs/Demands.antt says what, this file cites why.
 -- Assumes nothing.
 use mathlib.Core.Path.{_≡_, refl, sym, ap, ap₂, subst, _∙_}
-use mathlib.Core.Logic.{_↔_}
-use mathlib.Core.Bool.{Bool, true, false, cond, not, _&&_}
+use mathlib.Core.Logic.{_↔_, ⊎-elim}
+use mathlib.Core.Bool.{Bool, true, false, cond, not, _&&_, false≢true}
 use mathlib.Core.List.{List, [], _∷_, _++_, map}
 use Prim.Native.Nat.{ℕ, _+_, _-_, _*_, _≤_, _<_}
 use native.Mathlib.Omega.{arith}
 use lib.ListN.{length, getD, take, length-map}
 use lib.Dec.{eqb, leb, ltb}
-use borrow.Author.Tests.{ltb-true, lt-ltb, le-ltb}
+use borrow.Author.Tests.{eqb-true, ltb-true, lt-ltb, le-ltb}
 use Rattle.laws.specs.Lists.{member, Ascending}
+use Rattle.laws.specs.Cases.{firstCase, allNumbers, allNumbered}
+use Rattle.laws.proofs.Cases.{first-number, first-front, first-behind}
+use Rattle.laws.proofs.Order.{eq-or-ne}
 use Rattle.laws.proofs.Lists.{count-ext}
 use Rattle.laws.proofs.Members.{member-at}
-use Rattle.names.specs.Names.{judgeOf}
 use Rattle.names.specs.Features.{featuresOf}
 use Rattle.names.specs.Shared.{sharedOf}
 use Rattle.names.proofs.Laws.{size-most}
 use Rattle.likeness.specs.Measures.{goodMeasure, goodThreshold, isSimilar}
 use Rattle.likeness.specs.Sizes.{isSearched}
 use Rattle.likeness.specs.Terms.{lowestTerms}
-use Rattle.likeness.proofs.Measures.{measure-range, similar-fraction}
+use Rattle.likeness.proofs.Measures.{similar-fraction}
 use Rattle.likeness.proofs.Least.{least-pos, least-within}
 use Rattle.words.specs.Words.{nameCount, nameId, nameSize}
 use Rattle.index.specs.Good.{goodOf}
@@ -31,115 +33,102 @@ use Rattle.search.specs.declared.Answer.{Answer}
 use Rattle.search.specs.declared.Answer.the-variants.{Found, Refused}
 use Rattle.search.proofs.Laws.{length-lists, held-features, listed-similar, Query}
 use Rattle.search.proofs.Whole.{query-features}
-use Rattle.search.proofs.Answered.{good-past, good-full, good-found, search-runs}
+use Rattle.search.proofs.Answered.{good-past, good-full, good-found, search-refused, search-runs}
 use Rattle.search.proofs.Found.{refused-empty, refused-gives, given-found, Asked, asked, Answered as AnsweredOf, answered}
 use Rattle.search.proofs.Listed.{over-taken, over-at, answer-place, answer-ids, answer-listed}
 use Rattle.search.proofs.Work.{touches-candidates, candidates-names, touches-all, touches-most, signatures-least}
-use Rattle.statements.specs.Demands.{Lending, columns, records, Question, Bytes, answer, number, steps, found, after, Case, firstCase, case, beforeWork, refusals, touchesWith, Demand1, sharedBy, Reaches, rowIds, Demand2, withAllowance, leastAt, listsAt, postingsAt, candidatesAt, Demand3, Demands, Searches}
+use Rattle.statements.specs.Demands.{Lending, columns, records, Question, Bytes, answer, number, steps, found, after, beforeWork, afterWork, refusals, touchesWith, Demand1, sharedBy, Reaches, rowIds, Demand2, withAllowance, leastAt, listsAt, postingsAt, candidatesAt, Demand3, Demands, Searches}
 use Rattle.statements.proofs.Lent.{Lends, columns-lend, records-lend}
 
 -- ---- demand 1
 
--- what is judged before the work is counted, by its tests alone: the query's three, the measure's, the threshold's and the index's
-judgedBy : Bool → Bool → Bool → ℕ
-judgedBy e l z = cond e 1 (cond l 2 (cond z 3 0))
-
-questionBy : ℕ → Bool → Bool → ℕ
-questionBy j m t = cond (eqb j 0) (cond m (cond t 0 5) 4) j
-
-refusalBy : ℕ → Bool → ℕ
-refusalBy n g = cond (eqb n 0) (cond g 0 6) n
-
-beforeBy : Bool → Bool → Bool → Bool → Bool → Bool → Bool → Bool → Bool → List Case
-beforeBy e l z m m′ t t′ t″ g =
-    case 1 e
-    ∷ case 2 l
-    ∷ case 3 z
-    ∷ case 4 (not m)
-    ∷ case 4 (not m′)
-    ∷ case 5 (not t)
-    ∷ case 5 (not t′)
-    ∷ case 5 (not t″)
-    ∷ case 6 (not g)
-    ∷ []
-
-refused-by : (e l z m m′ t t′ t″ g : Bool)
-    → refusalBy (questionBy (judgedBy e l z) (m && m′) (t && (t′ && t″))) g ≡ firstCase (beforeBy e l z m m′ t t′ t″ g)
-unfolding firstCase judgedBy questionBy refusalBy beforeBy
-refused-by true l z m m′ t t′ t″ g = refl
-refused-by false true z m m′ t t′ t″ g = refl
-refused-by false false true m m′ t t′ t″ g = refl
-refused-by false false false false m′ t t′ t″ g = refl
-refused-by false false false true false t t′ t″ g = refl
-refused-by false false false true true false t′ t″ g = refl
-refused-by false false false true true true false t″ g = refl
-refused-by false false false true true true true false g = refl
-refused-by false false false true true true true true false = refl
-refused-by false false false true true true true true true = refl
-
--- the whole answer by its tests: the allowance's and the room's too
-module _ (allowance all rows p q : ℕ) where
-  answerBy : ℕ → Bool → Bool → Answer
-  answerBy r s f = cond (eqb r 0) (cond s (Refused 7 allowance) (cond f (Refused 8 all) (Found rows all p q))) (Refused r 0)
-
-  wholeBy : Bool → Bool → Bool → Bool → Bool → Bool → Bool → Bool → Answer
-  wholeBy e l z m t g s f = answerBy (refusalBy (questionBy (judgedBy e l z) m t) g) s f
-
-  touchesBy : ℕ → ℕ
-  touchesBy n = cond (eqb n 0) all (cond (eqb n 8) all (cond (eqb n 7) allowance 0))
-
-  judged-by : (e l z m m′ t t′ t″ g s f : Bool)
-      → numberIn (wholeBy e l z (m && m′) (t && (t′ && t″)) g s f) ≡ firstCase (beforeBy e l z m m′ t t′ t″ g ++ (case 7 s ∷ case 8 f ∷ []))
-  unfolding firstCase judgedBy questionBy refusalBy answerBy wholeBy beforeBy
-  judged-by true l z m m′ t t′ t″ g s f = refl
-  judged-by false true z m m′ t t′ t″ g s f = refl
-  judged-by false false true m m′ t t′ t″ g s f = refl
-  judged-by false false false false m′ t t′ t″ g s f = refl
-  judged-by false false false true false t t′ t″ g s f = refl
-  judged-by false false false true true false t′ t″ g s f = refl
-  judged-by false false false true true true false t″ g s f = refl
-  judged-by false false false true true true true false g s f = refl
-  judged-by false false false true true true true true false s f = refl
-  judged-by false false false true true true true true true true f = refl
-  judged-by false false false true true true true true true false true = refl
-  judged-by false false false true true true true true true false false = refl
-
-  touched-by : (e l z m t g s f : Bool) → touchesIn (wholeBy e l z m t g s f) ≡ touchesBy (numberIn (wholeBy e l z m t g s f))
-  unfolding judgedBy questionBy refusalBy answerBy wholeBy touchesBy
-  touched-by true l z m t g s f = refl
-  touched-by false true z m t g s f = refl
-  touched-by false false true m t g s f = refl
-  touched-by false false false false t g s f = refl
-  touched-by false false false true false g s f = refl
-  touched-by false false false true true false s f = refl
-  touched-by false false false true true true true f = refl
-  touched-by false false false true true true false true = refl
-  touched-by false false false true true true false false = refl
-
 -- what is judged before the work is counted is the first of those cases
 pub refused-first : {A : Type 0} (a : Question A) → refusalOf (a .query) (a .measure) (a .p) (a .q) (a .words) ≡ firstCase (beforeWork a)
-unfolding refusalOf questionOf judgeOf goodThreshold judgedBy questionBy refusalBy beforeBy
-refused-first a =
-    ap (λ (m : Bool). refusalBy (questionBy (judgedBy (eqb (length (a .query)) 0) (ltb 64 (length (a .query))) (member 0 (a .query))) m (goodThreshold (a .p) (a .q))) (goodOf (a .words)))
-    (measure-range (a .measure))
-    ∙ refused-by (eqb (length (a .query)) 0) (ltb 64 (length (a .query))) (member 0 (a .query)) (leb 1 (a .measure)) (leb (a .measure) 4) (leb 1 (a .p)) (leb (a .p) (a .q)) (leb (a .q) 1000) (goodOf (a .words))
+unfolding refusalOf
+refused-first a = refl
+
+-- none of them has the number 0, and none a number that goes with a count
+before-numbered : {A : Type 0} (a : Question A) → allNumbered (beforeWork a) ≡ true
+unfolding allNumbers
+before-numbered a = refl
+
+counts : ℕ → Bool
+counts n = not (eqb n 8) && not (eqb n 7)
+
+before-uncounted : {A : Type 0} (a : Question A) → counts (firstCase (beforeWork a)) ≡ true
+before-uncounted a = first-number counts (beforeWork a) (unfold counts in refl) all
+  where
+    all : allNumbers counts (beforeWork a) ≡ true
+    all = unfold allNumbers counts in refl
 
 module _ {A : Type 0} (s : Lending A) (lends : Lends s) (a : Question A) where
   abbrev room : ℕ
   room = s .room (a .lent)
 
+  -- the answer where nothing is refused before the work is counted, by its two tests
+  abbrev goodAnswer : Answer
+  goodAnswer = searchGoodOf (a .query) (a .measure) (a .p) (a .q) (a .allowance) (a .words) room
+
+  abbrev byTests : Bool → Bool → Answer
+  byTests t f = cond t (Refused 7 (a .allowance)) (cond f (Refused 8 (steps a)) (Found (length (found a)) (steps a) (lowestTerms (a .p) (a .q) .p) (lowestTerms (a .p) (a .q) .q)))
+
+  good-judged : numberIn goodAnswer ≡ firstCase (afterWork s a)
+  unfolding searchGoodOf firstCase
+  good-judged = by-tests (ltb (a .allowance) (steps a)) (ltb room (length (found a)))
+    where
+      by-tests : (t f : Bool) → numberIn (byTests t f) ≡ cond t 7 (cond f 8 0)
+      by-tests true f = refl
+      by-tests false true = refl
+      by-tests false false = refl
+
+  good-touched : touchesIn goodAnswer ≡ touchesWith a (numberIn goodAnswer)
+  unfolding searchGoodOf
+  good-touched = by-tests (ltb (a .allowance) (steps a)) (ltb room (length (found a)))
+    where
+      by-tests : (t f : Bool) → touchesIn (byTests t f) ≡ touchesWith a (numberIn (byTests t f))
+      by-tests true f = refl
+      by-tests false true = refl
+      by-tests false false = refl
+
+  -- refused before its work is counted, or not
+  judged-before : (refusalOf (a .query) (a .measure) (a .p) (a .q) (a .words) ≡ 0 → ⊥) → answer s a ≡ Refused (firstCase (beforeWork a)) 0
+  judged-before n =
+      search-refused (a .query) (a .measure) (a .p) (a .q) (a .allowance) (a .words) room (firstCase (beforeWork a)) (refused-first a) (λ z. n (refused-first a ∙ z))
+
+  judged-after : refusalOf (a .query) (a .measure) (a .p) (a .q) (a .words) ≡ 0 → answer s a ≡ goodAnswer
+  judged-after z = search-runs (a .query) (a .measure) (a .p) (a .q) (a .allowance) (a .words) room z
+
   -- the number is the first of the table
   judged-first : number s a ≡ firstCase (refusals s a)
-  unfolding searchOf refusalOf questionOf judgeOf goodThreshold searchGoodOf judgedBy questionBy refusalBy answerBy wholeBy beforeBy
   judged-first =
-      ap (λ (m : Bool). numberIn (wholeBy (a .allowance) (steps a) (length (found a)) (lowestTerms (a .p) (a .q) .p) (lowestTerms (a .p) (a .q) .q) (eqb (length (a .query)) 0) (ltb 64 (length (a .query))) (member 0 (a .query)) m (goodThreshold (a .p) (a .q)) (goodOf (a .words)) (ltb (a .allowance) (steps a)) (ltb room (length (found a)))))
-      (measure-range (a .measure))
-      ∙ judged-by (a .allowance) (steps a) (length (found a)) (lowestTerms (a .p) (a .q) .p) (lowestTerms (a .p) (a .q) .q) (eqb (length (a .query)) 0) (ltb 64 (length (a .query))) (member 0 (a .query)) (leb 1 (a .measure)) (leb (a .measure) 4) (leb 1 (a .p)) (leb (a .p) (a .q)) (leb (a .q) 1000) (goodOf (a .words)) (ltb (a .allowance) (steps a)) (ltb room (length (found a)))
+      ⊎-elim
+      (λ (z : refusalOf (a .query) (a .measure) (a .p) (a .q) (a .words) ≡ 0).
+      ap numberIn (judged-after z) ∙ good-judged ∙ sym (first-behind (beforeWork a) (afterWork s a) (before-numbered a) (sym (refused-first a) ∙ z)))
+      (λ (n : refusalOf (a .query) (a .measure) (a .p) (a .q) (a .words) ≡ 0 → ⊥).
+      ap numberIn (judged-before n) ∙ sym (first-front (beforeWork a) (afterWork s a) (λ z. n (refused-first a ∙ z))))
+      (eq-or-ne (refusalOf (a .query) (a .measure) (a .p) (a .q) (a .words)) 0)
+
+  -- a number that goes with no count, and is not 0, has no touches
+  no-touches : (n : ℕ) → (n ≡ 0 → ⊥) → counts n ≡ true → 0 ≡ touchesWith a n
+  unfolding counts
+  no-touches n z c = by-tests (eqb n 0) refl (eqb n 8) (eqb n 7) c
+    where
+      by-tests : (e : Bool) → eqb n 0 ≡ e → (f g : Bool) → not f && not g ≡ true → 0 ≡ cond e (steps a) (cond f (steps a) (cond g (a .allowance) 0))
+      by-tests true p f g h = absurd (z (eqb-true n 0 p))
+      by-tests false p true g h = absurd (false≢true h)
+      by-tests false p false true h = absurd (false≢true h)
+      by-tests false p false false h = refl
 
   touched-with : touchesIn (answer s a) ≡ touchesWith a (number s a)
-  unfolding searchOf refusalOf questionOf judgeOf searchGoodOf judgedBy questionBy refusalBy answerBy wholeBy touchesBy
   touched-with =
-      touched-by (a .allowance) (steps a) (length (found a)) (lowestTerms (a .p) (a .q) .p) (lowestTerms (a .p) (a .q) .q) (eqb (length (a .query)) 0) (ltb 64 (length (a .query))) (member 0 (a .query)) (goodMeasure (a .measure)) (goodThreshold (a .p) (a .q)) (goodOf (a .words)) (ltb (a .allowance) (steps a)) (ltb room (length (found a)))
+      ⊎-elim
+      (λ (z : refusalOf (a .query) (a .measure) (a .p) (a .q) (a .words) ≡ 0).
+      ap touchesIn (judged-after z) ∙ good-touched ∙ ap (λ (r : Answer). touchesWith a (numberIn r)) (sym (judged-after z)))
+      (λ (n : refusalOf (a .query) (a .measure) (a .p) (a .q) (a .words) ≡ 0 → ⊥).
+      ap touchesIn (judged-before n)
+      ∙ no-touches (firstCase (beforeWork a)) (λ z. n (refused-first a ∙ z)) (before-uncounted a)
+      ∙ ap (λ (r : Answer). touchesWith a (numberIn r)) (sym (judged-before n)))
+      (eq-or-ne (refusalOf (a .query) (a .measure) (a .p) (a .q) (a .words)) 0)
 
   demand-1 : Demand1 s a
   demand-1 =

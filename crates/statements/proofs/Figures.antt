@@ -1,6 +1,7 @@
 -- The worked figures hold, all of them, by computation from the definitions.
 -- Assumes nothing.
 use mathlib.Core.Path.{refl}
+use Rattle.laws.specs.Cases.{firstCase}
 use Rattle.laws.specs.Lists.{member, countOf, tabulate, sumOf}
 use Rattle.laws.specs.Below.{allBelow, anyBelow, sumBelow}
 use Rattle.laws.specs.First.{firstFrom}
@@ -22,5 +23,5 @@ use Rattle.search.specs.Answers.{questionOf, refusalOf, searchGoodOf, searchOf}
 use Rattle.statements.specs.Figures.{allRight, FiguresRight}
 
 pub figures-right : FiguresRight
-unfolding allRight goodOf headGood nameGood namesGood rowBefore placeDue rowGood rowsGood isName listGood listsWith listsGood nameWord nameId nameSize rowSize rowFeature rowPlace rowLength posting listAt triplesOf allTriples joinRow runsOf listsOf rowWords wordsFrom rowsOf wordsOf insert sortOf member countOf tabulate allBelow anyBelow sumBelow judgeOf padded joined gramAt timesIn numberAt numbered featuresBy featuresOf sharedOf sumOf firstFrom measureOf goodMeasure goodThreshold reaches isSimilar beside mayReach isSearched leastCount rowIs rowFor listIn orderedFor listsFor heldBy signaturePostings remains remaining touchesAt sharedWith touchesOfSize touchesOf listed answersBelow answersOf divisorF divisorOf lowestTerms questionOf refusalOf searchGoodOf searchOf
+unfolding allRight goodOf headGood nameGood namesGood rowBefore placeDue rowGood rowsGood isName listGood listsWith listsGood nameWord nameId nameSize rowSize rowFeature rowPlace rowLength posting listAt triplesOf allTriples joinRow runsOf listsOf rowWords wordsFrom rowsOf wordsOf insert sortOf member countOf tabulate allBelow anyBelow sumBelow firstCase judgeOf padded joined gramAt timesIn numberAt numbered featuresBy featuresOf sharedOf sumOf firstFrom measureOf goodMeasure goodThreshold reaches isSimilar beside mayReach isSearched leastCount rowIs rowFor listIn orderedFor listsFor heldBy signaturePostings remains remaining touchesAt sharedWith touchesOfSize touchesOf listed answersBelow answersOf divisorF divisorOf lowestTerms questionOf refusalOf searchGoodOf searchOf
 figures-right = refl

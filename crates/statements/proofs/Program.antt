@@ -9,6 +9,7 @@ use lib.ListN.{length, getD, take, drop, replicate, length-replicate, length-map
 use lib.Dec.{ltb}
 use borrow.Author.Tests.{lt-ltb, le-ltb}
 use Rattle.laws.specs.Lists.{countOf, tabulate}
+use Rattle.laws.specs.Cases.{firstCase}
 use Rattle.laws.proofs.Lists.{tabulate-ext}
 use Rattle.names.specs.Features.{featuresOf}
 use Rattle.likeness.specs.Terms.{lowestTerms}
@@ -27,7 +28,7 @@ use Rattle.answers.specs.declared.Opened.{Opened}
 use Rattle.answers.specs.Output.{mostInput, registerEnd, registerOf, queriesOf, programWords, rowsLent, openedOf, openWords, queryIn, measureIn, pIn, qIn, allowanceIn, searchFor, placesFor, rowLine, endLine, refusalLine, answerOf, endsAnswer, answerLines, answersText, outputOf}
 use Rattle.answers.proofs.Responding.{output-opened, output-refused}
 use Rattle.answers.proofs.Ends.{lines-query, lines-stray, lines-once, lines-all, lines-count, output-broken}
-use Rattle.statements.specs.Demands.{Columns, columns, Question, answer, number, steps, found, after, firstCase, refusals, Answered, touchesWith, Demand1, Demand2, Demands, Accepted, ofBuilt}
+use Rattle.statements.specs.Demands.{Columns, columns, Question, answer, number, steps, found, after, refusals, Answered, touchesWith, Demand1, Demand2, Demands, Accepted, ofBuilt}
 use Rattle.statements.specs.Program.{indexWords, Registered, asks, asked, numberTo, rowsTo, rowTo, linesTo, AnswerTo, Program, Programs}
 use Rattle.statements.proofs.Demands.{searches}
 use Rattle.statements.proofs.Building.{end-to-end}

@@ -7,13 +7,14 @@
 -- Assumes nothing.
 use mathlib.Core.Path.{_≡_}
 use mathlib.Core.Logic.{_↔_}
-use mathlib.Core.Bool.{Bool, true, false, cond, not}
+use mathlib.Core.Bool.{Bool, true, false, cond}
 use mathlib.Core.List.{List, [], _∷_, _++_, map}
 use Prim.Native.Nat.{ℕ, _+_, _-_, _*_, _≤_, _<_}
 use lib.ListN.{length, getD, take, drop, replicate}
-use lib.Dec.{eqb, leb, ltb}
+use lib.Dec.{eqb, ltb}
 use Rattle.laws.specs.Lists.{member, Ascending, countOf, sumOf}
 use Rattle.laws.specs.Filter.{filterOf}
+use Rattle.laws.specs.Cases.{Case, case, firstCase}
 use Rattle.names.specs.Features.{characters, featuresOf}
 use Rattle.names.specs.Shared.{sharedOf}
 use Rattle.likeness.specs.Measures.{measureOf}
@@ -22,7 +23,7 @@ use Rattle.likeness.specs.Least.{leastCount}
 use Rattle.likeness.specs.Fractions.{FractionLe, numerator, denominator, raised}
 use Rattle.likeness.specs.Terms.{lowestTerms}
 use Rattle.words.specs.Words.{nameCount, nameId, nameSize, total}
-use Rattle.index.specs.Good.{goodOf, Good}
+use Rattle.index.specs.Good.{Good}
 use Rattle.postings.specs.Built.{wordsOf}
 use Rattle.lists.specs.Lists.{listIn, featuresIn}
 use Rattle.layouts.specs.Layouts.{isFrame, nameIn, lineOf, readOf, bufferOf}
@@ -36,7 +37,7 @@ use Rattle.register.specs.Lines.{linesOf, nthLine}
 use Rattle.register.specs.Build.{idIn, nameOf, entryOf, judgeNth, builtOf, wordsAfter}
 use Rattle.candidates.specs.Method.{signatures, signaturePostings}
 use Rattle.search.specs.Method.{namesOf, listsFor, remaining, touchesOfSize, touchesOf, answersOf}
-use Rattle.search.specs.Answers.{numberIn, rowsIn, touchesIn, thresholdP, thresholdQ, searchOf, givenBy, roomOf, over, idColumn, sharedColumn, sizeColumn}
+use Rattle.search.specs.Answers.{numberIn, rowsIn, touchesIn, thresholdP, thresholdQ, refusalCases, searchOf, givenBy, roomOf, over, idColumn, sharedColumn, sizeColumn}
 use Rattle.search.specs.declared.Answer.{Answer}
 use Rattle.rows.specs.Rows.{rowsOf, overRows}
 use Rattle.rows.specs.declared.Row.{Row as Record}
@@ -134,32 +135,10 @@ after s a = s .written (a .words) (featuresOf (a .query)) (givenBy (answer s a) 
 
 -- ---- demand 1: a list or a numbered refusal
 
--- a case of the table: when it applies, and its number
-pub record Case : Type 0 where
-  pub applies : Bool
-  pub number : ℕ
-
--- the number of the first case that applies; 0 where none does
-unfoldable pub firstCase : List Case → ℕ
-firstCase [] = 0
-firstCase (c ∷ cs) = cond (c .applies) (c .number) (firstCase cs)
-
-abbrev pub case : ℕ → Bool → Case
-case n b = record { applies = b; number = n }
-
--- the refusals, in the order in which they are judged: first those that are judged before the work is counted
+-- the refusals, in the order in which they are judged: first those that are judged before the work is counted. They are the query's (1, 2, 3: specs/Names.antt
+-- of `names`), the measure's and the threshold's (4, 5) and the index's (6: specs/Answers.antt of `search`)
 abbrev pub beforeWork : {A : Type 0} → Question A → List Case
-beforeWork a =
-    case 1 (eqb (length (a .query)) 0)
-    ∷ case 2 (ltb 64 (length (a .query)))
-    ∷ case 3 (member 0 (a .query))
-    ∷ case 4 (not (leb 1 (a .measure)))
-    ∷ case 4 (not (leb (a .measure) 4))
-    ∷ case 5 (not (leb 1 (a .p)))
-    ∷ case 5 (not (leb (a .p) (a .q)))
-    ∷ case 5 (not (leb (a .q) 1000))
-    ∷ case 6 (not (goodOf (a .words)))
-    ∷ []
+beforeWork a = refusalCases (a .query) (a .measure) (a .p) (a .q) (a .words)
 
 -- then those that the count and the list decide
 abbrev pub afterWork : {A : Type 0} → Lending A → Question A → List Case

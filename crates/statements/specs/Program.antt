@@ -8,6 +8,7 @@ use mathlib.Core.List.{List, [], _∷_, _++_, map}
 use Prim.Native.Nat.{ℕ, _≤_, _<_}
 use lib.ListN.{length, getD, take, replicate}
 use Rattle.laws.specs.Lists.{countOf, tabulate}
+use Rattle.laws.specs.Cases.{firstCase}
 use Rattle.likeness.specs.Terms.{lowestTerms}
 use Rattle.layouts.specs.Layouts.{isFrame}
 use Rattle.frames.specs.Frames.{queryFrame}
@@ -15,7 +16,7 @@ use Rattle.register.specs.Lines.{linesOf}
 use Rattle.register.specs.Build.{builtOf, wordsAfter}
 use Rattle.search.specs.Answers.{rowsIn}
 use Rattle.answers.specs.Output.{mostInput, programWords, rowsLent, registerOf, queriesOf, queryIn, measureIn, pIn, qIn, allowanceIn, rowLine, endLine, refusalLine, answerOf, joined, endsAnswer, outputOf}
-use Rattle.statements.specs.Demands.{Columns, columns, Question, answer, steps, after, firstCase, refusals, Answered, touchesWith, Accepted, ofBuilt, Listing}
+use Rattle.statements.specs.Demands.{Columns, columns, Question, answer, steps, after, refusals, Answered, touchesWith, Accepted, ofBuilt, Listing}
 
 -- the words of the program's index, as they are lent to the build
 abbrev pub indexWords : List ℕ
