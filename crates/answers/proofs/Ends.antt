@@ -21,13 +21,13 @@ use Rattle.layouts.specs.Layouts.{isFrame, lineOf, fieldBytes, nameBytes}
 use Rattle.layouts.proofs.Layouts.{frame-other, frame-well-formed}
 use Rattle.layouts.proofs.Laws.{frame-line}
 use Rattle.frames.specs.Frames.{queryFrame, rowFrame, endFrame, refusalFrame}
-use Rattle.register.specs.Lines.{linesOf}
+use Rattle.lines.specs.Lines.{linesOf, joined}
 use Rattle.search.specs.Answers.{idColumn, sharedColumn, sizeColumn}
 use Rattle.search.specs.declared.Answer.{Answer}
 use Rattle.search.specs.declared.Answer.the-variants.{Found, Refused}
 use Rattle.answers.specs.declared.Opened.{Opened}
-use Rattle.answers.specs.Output.{rowLine, endLine, refusalLine, rowsText, foundText, answerText, queryIn, searchFor, placesFor, answerOf, joined, endsAnswer, answerLines, queriesOf, openedOf, openWords, programWords, answersText, outputOf}
-use Rattle.answers.proofs.Cut.{Line, Ended, lines-joined, joined-append, ended-behind, ended-each, broken-fewer}
+use Rattle.answers.specs.Output.{rowLine, endLine, refusalLine, rowsText, foundText, answerText, queryIn, searchFor, placesFor, answerOf, endsAnswer, answerLines, queriesOf, openedOf, openWords, programWords, answersText, outputOf}
+use Rattle.lines.proofs.Cut.{Line, Ended, lines-joined, joined-append, ended-behind, ended-each, broken-fewer}
 use Rattle.answers.proofs.Reading.{one-line}
 use Rattle.answers.proofs.Responding.{output-opened, output-refused}
 

@@ -2,18 +2,18 @@
 -- Assumes nothing.
 use mathlib.Core.Path.{_≡_, refl, sym, ap, ap₂, _∙_}
 use mathlib.Core.Bool.{Bool, true, false, cond, _&&_}
-use mathlib.Core.List.{List, [], _∷_}
+use mathlib.Core.List.{List, [], _∷_, _++_}
 use Prim.Native.Nat.{ℕ, zero, suc, _+_, _-_, _≤_, _<_}
 use native.Mathlib.Nat.{add-zero}
 use native.Mathlib.Omega.{arith}
-use lib.ListN.{length, getD, take, drop, replicate, length-drop, drop-of-length-le, List·getD-eq-default}
+use lib.ListN.{length, getD, take, drop, replicate, length-append, length-drop, drop-of-length-le, List·getD-eq-default}
 use lib.Seq.{length-take-le, drop-drop, getD-drop}
 use lib.Dec.{eqb, ltb}
 use borrow.Author.Tests.{eq-eqb, ne-eqb, eqb-true, lt-ltb, le-ltb}
 use Rattle.index.specs.Good.{Good, goodOf}
 use Rattle.index.proofs.Laws.{refused-not-good}
-use Rattle.register.specs.Lines.{linesOf, lineLength, lineFeed, joinLine}
-use Rattle.register.proofs.Lines.{lines-nil, lines-step, line-within}
+use Rattle.lines.specs.Lines.{linesOf, lineLength, lineFeed, joined}
+use Rattle.lines.proofs.Lines.{lines-nil, lines-step, line-within, joined-lines}
 use Rattle.register.proofs.Laws.{accepted-good, refused-bad}
 use Rattle.register.specs.Build.{blank, builtOf, wordsAfter}
 use Rattle.register.specs.declared.Built.{Built}
@@ -120,38 +120,20 @@ module _ (input words : List ℕ) where
 
 -- ---- an input that was opened
 
--- the bytes of lines
-allBytes : List (List ℕ) → ℕ
-allBytes [] = 0
-allBytes (l ∷ ls) = length l + allBytes ls
-
-before-most : (ls : List (List ℕ)) → bytesBefore ls ≤ allBytes ls
-unfolding bytesBefore allBytes
+before-most : (ls : List (List ℕ)) → bytesBefore ls ≤ length (joined ls)
+unfolding bytesBefore joined
 before-most [] = omega arith
-before-most (l ∷ ls) = by-test (begins l) (before-most ls)
+before-most (l ∷ ls) = let n = length-append l (joined ls) in by-test (begins l) (before-most ls) n
   where
-    by-test : (b : Bool) → bytesBefore ls ≤ allBytes ls → cond b 0 (length l + bytesBefore ls) ≤ length l + allBytes ls
-    by-test true h = omega arith
-    by-test false h = omega arith
-
-bytes-joined : (b : ℕ) (ls : List (List ℕ)) → allBytes (joinLine b ls) ≡ 1 + allBytes ls
-unfolding joinLine allBytes
-bytes-joined b [] = refl
-bytes-joined b (l ∷ ls) = omega arith
-
-bytes-lines : (s : List ℕ) → allBytes (linesOf s) ≡ length s
-unfolding linesOf allBytes
-bytes-lines [] = refl
-bytes-lines (b ∷ s) = by-feed (eqb b lineFeed) (bytes-lines s)
-  where
-    by-feed : (t : Bool) → allBytes (linesOf s) ≡ length s → allBytes (cond t ((b ∷ []) ∷ linesOf s) (joinLine b (linesOf s))) ≡ suc (length s)
-    by-feed true e = omega arith
-    by-feed false e = let j = bytes-joined b (linesOf s) in omega arith
+    by-test : (b : Bool) → bytesBefore ls ≤ length (joined ls) → length (l ++ joined ls) ≡ length l + length (joined ls)
+        → cond b 0 (length l + bytesBefore ls) ≤ length (l ++ joined ls)
+    by-test true h n = omega arith
+    by-test false h n = omega arith
 
 -- the register ends within the input
 pub end-within : (s : List ℕ) → registerEnd s ≤ length s
 unfolding registerEnd
-end-within s = let a = before-most (linesOf s) in let b = bytes-lines s in omega arith
+end-within s = let a = before-most (linesOf s) in let b = ap length (joined-lines s) in omega arith
 
 pub opened-within : (input : List ℕ) (room : ℕ) → openedOf input room .at ≤ length input
 unfolding openedOf

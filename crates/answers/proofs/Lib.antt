@@ -2,7 +2,6 @@ pub mod Input
 pub mod Text
 pub mod Asking
 pub mod Responding
-pub mod Cut
 pub mod Reading
 pub mod Pieces
 pub mod Ends

@@ -10,7 +10,7 @@ use lib.Seq.{drop-drop, take-at, drop-at}
 use lib.Dec.{ltb}
 use borrow.Author.Tests.{ltb-false}
 use Rattle.layouts.specs.declared.Written.{Written}
-use Rattle.register.specs.Lines.{linesOf, lineLength}
+use Rattle.lines.specs.Lines.{linesOf, lineLength}
 use Rattle.register.specs.Build.{blank, builtOf}
 use Rattle.register.proofs.Names.{same-build}
 use Rattle.answers.specs.declared.Opened.{Opened}

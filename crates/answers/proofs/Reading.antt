@@ -24,7 +24,7 @@ use Rattle.frames.specs.declared.EndRead.the-variants.{End}
 use Rattle.frames.specs.declared.RefusalRead.the-variants.{Refusal}
 use Rattle.frames.specs.Frames.{queryFrame, rowFrame, endFrame, refusalFrame, rowOut, endOut, refusalOut}
 use Rattle.frames.proofs.Five.{read-write-row, read-write-end, read-write-refusal}
-use Rattle.register.specs.Lines.{linesOf, joinLine, lineFeed}
+use Rattle.lines.specs.Lines.{linesOf, joinLine, lineFeed}
 use Rattle.search.specs.Method.{touchesOf, answersOf}
 use Rattle.search.specs.Answers.{numberIn, rowsIn, idColumn, sharedColumn, sizeColumn}
 use Rattle.search.specs.declared.Answer.{Answer}
@@ -33,7 +33,7 @@ use Rattle.search.proofs.Found.{refused-empty, Answered, answered}
 use Rattle.answers.specs.Output.{rowLine, endLine, refusalLine, rowsText, foundText, answerText, rowsLent, longestAnswer, queryIn, measureIn, pIn, qIn, allowanceIn, searchFor, placesFor, answerOf}
 use Rattle.answers.specs.Rows.{Shown}
 use Rattle.answers.proofs.Text.{length-found}
-use Rattle.answers.proofs.Cut.{NoFeed, Line}
+use Rattle.lines.proofs.Cut.{NoFeed, Line}
 
 -- ---- a line feed stands at the end of a line alone
 

@@ -13,8 +13,8 @@ use lib.Seq.{drop-drop}
 use lib.Dec.{eqb, leb, ltb}
 use borrow.Author.Tests.{eq-eqb, ne-eqb, lt-ltb, le-ltb}
 use Rattle.layouts.specs.declared.Written.{Written}
-use Rattle.register.specs.Lines.{linesOf, lineLength}
-use Rattle.register.proofs.Lines.{line-some, lines-nil, lines-step, length-line-end}
+use Rattle.lines.specs.Lines.{linesOf, lineLength}
+use Rattle.lines.proofs.Lines.{line-some, lines-nil, lines-step, length-line-end}
 use Rattle.answers.proofs.Text.{fitting-all, fitted-all, fitting-within}
 use Rattle.answers.specs.declared.Response.{Response}
 use Rattle.answers.specs.declared.Opened.{Opened}

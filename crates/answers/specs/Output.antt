@@ -10,7 +10,7 @@ use Rattle.names.specs.Features.{featuresOf}
 use Rattle.layouts.specs.declared.Written.{Written}
 use Rattle.layouts.specs.Layouts.{isFrame, fieldsIn, nameIn, lineOf}
 use Rattle.frames.specs.Frames.{queryFrame, rowFrame, endFrame, refusalFrame}
-use Rattle.register.specs.Lines.{linesOf, lineLength}
+use Rattle.lines.specs.Lines.{linesOf, lineLength}
 use Rattle.register.specs.Build.{blank, builtOf, wordsAfter}
 use Rattle.search.specs.Method.{answersOf}
 use Rattle.search.specs.Answers.{searchOf, givenBy, idColumn, sharedColumn, sizeColumn}
@@ -150,11 +150,6 @@ respondedOf w input at room =
     }
 
 -- ---- lines of an output
-
--- lists, one behind the other; nothing of no lists
-unfoldable pub joined : {A : Type 0} → List (List A) → List A
-joined [] = []
-joined (l ∷ ls) = l ++ joined ls
 
 -- whether a line is the last of an answer: a 45 or a 58 frame
 unfoldable pub endsAnswer : List ℕ → Bool

@@ -56,7 +56,7 @@ fn register_end(input: &[u8]) -> usize
         if begins_query(input, at) {
             return at;
         }
-        at = register::line_end(input, at);
+        at = lines::line_end(input, at);
     }
     at
 }
@@ -272,7 +272,7 @@ pub fn respond_good(input: &[u8], at: usize, words: &[u32], out: &mut [u8]) -> R
             next: at,
         };
     }
-    let end = register::line_end(input, at);
+    let end = lines::line_end(input, at);
     let written = answer_good(&input[at..end], words, out);
     Response {
         number: written.number,

@@ -7,7 +7,7 @@ use native.Mathlib.Omega.{arith}
 use lib.ListN.{length, take, drop, replicate, length-replicate}
 use lib.Seq.{take-length}
 use Rattle.index.specs.Good.{Good}
-use Rattle.register.specs.Lines.{linesOf, lineLength}
+use Rattle.lines.specs.Lines.{linesOf, lineLength}
 use Rattle.answers.specs.declared.Response.{Response}
 use Rattle.answers.specs.Output.{mostInput, programWords, longestAnswer, openedOf, openWords, refusalLine, fittedOf, lineText, respondedOf, answersText, outputOf}
 use Rattle.answers.proofs.Input.{opened-good}

@@ -13,7 +13,7 @@ use Rattle.hex.specs.Lines.{digitOf, placeIn, valueOf, isDigit, hexOf, hexLine,
 use Rattle.hex.specs.Numbers.{numberOf}
 use Rattle.layouts.specs.Layouts.{headSize, nameSize, laidOut, isFrame, fieldsOf, fieldsIn, nameIn}
 use Rattle.postings.specs.Built.{triplesOf, allTriples, joinRow, runsOf, listsOf, rowWords, wordsFrom, rowsOf, wordsOf}
-use Rattle.register.specs.Lines.{joinLine, linesOf}
+use Rattle.lines.specs.Lines.{joinLine, linesOf}
 use Rattle.register.specs.declared.Built.{Built}
 use Rattle.register.specs.Build.{nextFrom, judgeLine, takeLines, takenOf, builtOf, wordsAfter, blank}
 

@@ -1,4 +1,3 @@
-pub mod Lines
 pub mod Rows
 pub mod Over
 pub mod Judging

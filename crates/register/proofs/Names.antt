@@ -15,7 +15,7 @@ use Rattle.words.specs.Words.{nameCount, nameId, nameSize}
 use Rattle.lists.specs.Lists.{listIn, featuresIn}
 use Rattle.postings.specs.Built.{Entry, noEntry, Fit, wordsOf}
 use Rattle.postings.proofs.Built.{built-name-count, built-id, built-size, built-list, built-listed, built-features}
-use Rattle.register.specs.Lines.{linesOf, nthLine}
+use Rattle.lines.specs.Lines.{linesOf, nthLine}
 use Rattle.register.specs.Build.{idIn, nameOf, judgeNth, entryOf, nextId, takenOf, entriesOf, blank, padTo, builtOf, wordsAfter}
 use Rattle.register.proofs.Judging.{good-line}
 use Rattle.register.proofs.First.{none-bad, each-good}

@@ -19,10 +19,10 @@ use Rattle.index.specs.Good.{mostNames, mostPostings, largestId}
 use Rattle.postings.specs.Built.{Entry, noEntry, EntryFit, Fit, wordOf, tripleOf, triplesOf, allTriples}
 use Rattle.postings.proofs.Entries.{length-entries}
 use Rattle.postings.proofs.Built.{fit-nil, fit-snoc, name-fit, triples-append}
-use Rattle.register.specs.Lines.{linesOf, lineLength}
+use Rattle.lines.specs.Lines.{linesOf, lineLength}
 use Rattle.register.specs.Build.{idIn, nameOf, nextFrom, nextId, judgeLine, entryOf, Taken, takeLines, takenOf, entriesOf}
 use Rattle.register.specs.Steps.{Tables, Roomy, Read}
-use Rattle.register.proofs.Lines.{lines-nil, lines-step, line-some}
+use Rattle.lines.proofs.Lines.{lines-nil, lines-at, line-some}
 use Rattle.register.proofs.Judging.{good-line}
 
 -- ---- the least id that may follow
@@ -55,15 +55,6 @@ pub take-good : (es : List Entry) (l : List ℕ) (ls : List (List ℕ)) → judg
     → takeLines es (l ∷ ls) ≡ takeLines (es ++ (entryOf l ∷ [])) ls
 unfolding takeLines
 take-good es l ls z = rw (eq-eqb (judgeLine (length es) (nextId es) l) 0 z)
-
--- the line at a place, and those behind it
-pub lines-at : (s : List ℕ) (at end : ℕ) → at < length s → end ≡ at + lineLength (drop at s)
-    → linesOf (drop at s) ≡ take (end - at) (drop at s) ∷ linesOf (drop end s)
-lines-at s at end h e =
-    let n = length-drop at s in
-    let k : lineLength (drop at s) ≡ end - at = omega arith in
-    lines-step (drop at s) (omega arith)
-    ∙ ap₂ (λ (x : ℕ) (l : List ℕ). take x (drop at s) ∷ linesOf l) k (drop-drop (lineLength (drop at s)) at s ∙ ap (λ (x : ℕ). drop x s) (sym e))
 
 -- ---- the tables with one name more
 

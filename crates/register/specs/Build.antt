@@ -13,7 +13,7 @@ use Rattle.layouts.specs.Layouts.{isFrame, fieldsIn, nameIn}
 use Rattle.frames.specs.Frames.{nameFrame}
 use Rattle.index.specs.Good.{mostNames}
 use Rattle.postings.specs.Built.{Entry, wordsOf}
-use Rattle.register.specs.Lines.{linesOf, nthLine}
+use Rattle.lines.specs.Lines.{linesOf, nthLine}
 use Rattle.register.specs.declared.Built.{Built}
 
 -- ---- one line

@@ -10,7 +10,6 @@ ghost use Rattle.names.specs.Features.{featuresOf, mostFeatures};
 ghost use Rattle.words.specs.Words.{featureSpan};
 ghost use Rattle.index.specs.Good.{mostNames, mostPostings, largestId};
 ghost use Rattle.postings.specs.Built.{idSpan, tripleOf, runsOf, rowWords, wordsFrom};
-ghost use Rattle.register.specs.Lines.{lineLength};
 ghost use Rattle.register.specs.Build.{blank, builtOf, wordsAfter};
 ghost use Rattle.register.specs.Steps.{Heard, Roomy, Read, begins, RowsAt, Finished};
 
@@ -21,20 +20,6 @@ pub struct Built {
 }
 
 // ---- one line
-
-// Where the line that starts at `from` ends: behind its line feed, or at the end of the bytes. Beyond their end it is `from`.
-pub fn line_end(bytes: &[u8], from: usize) -> usize
-    ensures { λ r. ⌜ r ≡ from + lineLength (drop from (now (bytes .entry))) ⌝ }
-{
-    let mut i = from;
-    while i < bytes.len() {
-        if bytes[i] == 10 {
-            return i + 1;
-        }
-        i += 1;
-    }
-    i
-}
 
 // What judging a line answers: its number, and its id and the length of its name where that is 0.
 struct Judged {
@@ -128,7 +113,7 @@ fn take_lines(register: &[u8], name: &mut [u8], names: &mut [u32], triples: &mut
     let mut next: u32 = 0;
     let mut at = 0;
     while at < register.len() {
-        let end = line_end(register, at);
+        let end = lines::line_end(register, at);
         let line = judge_line(&register[at..end], name, n, next);
         if line.number != 0 {
             let place = n as u32 + 1;

@@ -16,7 +16,7 @@ use Rattle.words.specs.Words.{nameSize}
 use Rattle.index.specs.Good.{goodOf}
 use Rattle.postings.specs.Built.{Entry, wordsOf}
 use Rattle.lists.specs.Lists.{featuresIn}
-use Rattle.register.specs.Lines.{linesOf, nthLine}
+use Rattle.lines.specs.Lines.{linesOf, nthLine}
 use Rattle.register.specs.Build.{idIn, nameOf, wordsAfter}
 use Rattle.register.proofs.Laws.{accepted-good, refused-words, refused-bad}
 use Rattle.register.proofs.First.{first-bad-built, none-bad, none-bad-over, none-bad-fits}

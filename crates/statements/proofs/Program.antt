@@ -16,7 +16,7 @@ use Rattle.likeness.specs.Terms.{lowestTerms}
 use Rattle.layouts.specs.Layouts.{isFrame}
 use Rattle.layouts.proofs.Laws.{read-fits}
 use Rattle.frames.specs.Frames.{queryFrame}
-use Rattle.register.specs.Lines.{linesOf}
+use Rattle.lines.specs.Lines.{linesOf}
 use Rattle.register.specs.Build.{builtOf, wordsAfter}
 use Rattle.words.specs.Words.{nameId, nameSize}
 use Rattle.search.specs.Method.{sharedWith, answersOf}

@@ -33,7 +33,7 @@ use Rattle.frames.specs.declared.QueryRead.{QueryRead}
 use Rattle.frames.specs.declared.RowRead.the-variants.{Row}
 use Rattle.frames.specs.declared.EndRead.the-variants.{End}
 use Rattle.frames.specs.declared.RefusalRead.the-variants.{Refusal}
-use Rattle.register.specs.Lines.{linesOf, nthLine}
+use Rattle.lines.specs.Lines.{linesOf, nthLine}
 use Rattle.register.specs.Build.{idIn, nameOf, entryOf, judgeNth, builtOf, wordsAfter}
 use Rattle.candidates.specs.Method.{signatures, signaturePostings}
 use Rattle.search.specs.Method.{namesOf, listsFor, remaining, touchesOfSize, touchesOf, answersOf}

@@ -12,10 +12,10 @@ use Rattle.laws.specs.Cases.{firstCase}
 use Rattle.likeness.specs.Terms.{lowestTerms}
 use Rattle.layouts.specs.Layouts.{isFrame}
 use Rattle.frames.specs.Frames.{queryFrame}
-use Rattle.register.specs.Lines.{linesOf}
+use Rattle.lines.specs.Lines.{linesOf, joined}
 use Rattle.register.specs.Build.{builtOf, wordsAfter}
 use Rattle.search.specs.Answers.{rowsIn}
-use Rattle.answers.specs.Output.{mostInput, programWords, rowsLent, registerOf, queriesOf, queryIn, measureIn, pIn, qIn, allowanceIn, rowLine, endLine, refusalLine, answerOf, joined, endsAnswer, outputOf}
+use Rattle.answers.specs.Output.{mostInput, programWords, rowsLent, registerOf, queriesOf, queryIn, measureIn, pIn, qIn, allowanceIn, rowLine, endLine, refusalLine, answerOf, endsAnswer, outputOf}
 use Rattle.statements.specs.Demands.{Columns, columns, Question, answer, steps, after, refusals, Answered, touchesWith, Accepted, ofBuilt, Listing}
 
 -- the words of the program's index, as they are lent to the build

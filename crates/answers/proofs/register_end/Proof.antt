@@ -4,8 +4,8 @@ use Prim.Native.Nat.{ℕ, _+_, _-_, _≤_, _<_}
 use native.Mathlib.Omega.{arith}
 use borrow.Author.Needs.{needs}
 use lib.ListN.{length, drop, length-drop}
-use Rattle.register.specs.Lines.{linesOf, lineLength}
-use Rattle.register.proofs.Lines.{line-some, line-within}
+use Rattle.lines.specs.Lines.{linesOf, lineLength}
+use Rattle.lines.proofs.Lines.{line-some, line-within}
 use Rattle.answers.specs.Output.{bytesBefore, registerEnd}
 use Rattle.answers.proofs.Input.{end-first, end-nil, end-met, end-passed}
 use Rattle.answers.proofs.register_end.Statement.{statement}

@@ -1,7 +1,7 @@
 -- `respond_good` meets its contract.
 use native.Mathlib.Omega.{arith}
 use lib.ListN.{length}
-use Rattle.register.proofs.Lines.{line-within}
+use Rattle.lines.proofs.Lines.{line-within}
 use Rattle.answers.proofs.Responding.{responded-none, fitted-past, responded-line, fitted-line}
 use borrow.Author.Needs.{needs}
 use Rattle.answers.proofs.respond_good.Statement.{statement}

@@ -11,7 +11,7 @@ use Rattle.names.specs.Names.{judgeOf}
 use Rattle.names.specs.Features.{featuresOf}
 use Rattle.index.specs.Good.{mostNames}
 use Rattle.postings.specs.Built.{tripleOf}
-use Rattle.register.proofs.Lines.{line-ends}
+use Rattle.lines.proofs.Lines.{line-ends}
 use Rattle.register.proofs.Taking.{Reached, Turn, reached-nil, reached-all, turn-less, turn-few, turn-bad, turn-name, turn-id, turn-room, turn-more}
 use Rattle.register.proofs.take_lines.Statement.{statement}
 use Rattle.register.proofs.take_lines.Tie as tie

@@ -1,7 +1,7 @@
--- The lines of a register: its bytes cut behind each line feed. A last stretch without a line feed is a line too; no line follows a final line feed.
+-- The lines of bytes, which are cut behind each line feed. A last stretch without a line feed is a line too; no line follows a final line feed.
 -- Assumes nothing.
 use mathlib.Core.Bool.{cond}
-use mathlib.Core.List.{List, [], _∷_}
+use mathlib.Core.List.{List, [], _∷_, _++_}
 use Prim.Native.Nat.{ℕ, _+_}
 use lib.ListN.{getD}
 use lib.Dec.{eqb}
@@ -26,4 +26,9 @@ lineLength (b ∷ s) = let n = lineLength s in 1 + cond (eqb b lineFeed) 0 n
 
 -- line i, counted from 0; no bytes where there are not so many
 abbrev pub nthLine : List ℕ → ℕ → List ℕ
-nthLine register i = getD (linesOf register) i []
+nthLine s i = getD (linesOf s) i []
+
+-- lines, or any lists, one behind the other; nothing of no lists
+unfoldable pub joined : {A : Type 0} → List (List A) → List A
+joined [] = []
+joined (l ∷ ls) = l ++ joined ls

@@ -3,10 +3,10 @@ use mathlib.Core.Path.{_≡_, refl, sym, ap, ap₂, _∙_}
 use Prim.Native.Nat.{ℕ, _+_, _*_, _%_, _≤_, _<_, _-_}
 use native.Mathlib.Omega.{arith}
 use lib.ListN.{length, drop}
-use Rattle.register.specs.Lines.{lineLength}
-use Rattle.register.proofs.Lines.{length-line-feed, length-line-more, length-line-end}
-use Rattle.register.proofs.line_end.Statement.{statement}
-use Rattle.register.proofs.line_end.Tie as tie
+use Rattle.lines.specs.Lines.{lineLength}
+use Rattle.lines.proofs.Lines.{length-line-feed, length-line-more, length-line-end}
+use Rattle.lines.proofs.line_end.Statement.{statement}
+use Rattle.lines.proofs.line_end.Tie as tie
 
 abbrev Inv-loop : tie.InvT-loop
 Inv-loop bytes from i₀ i = i + lineLength (drop i bytes) ≡ from + lineLength (drop from bytes)

@@ -1,16 +1,16 @@
--- The lines of a register, one after the other: the first is as long as `lineLength` says, and the others are those of what follows it.
+-- Lines, one after the other: the first is as long as `lineLength` says, and the others are those of what follows it.
 -- Assumes nothing.
-use mathlib.Core.Path.{_≡_, refl, sym, ap, _∙_}
+use mathlib.Core.Path.{_≡_, refl, sym, ap, ap₂, _∙_}
 use mathlib.Core.Bool.{Bool, true, false, cond}
 use mathlib.Core.List.{List, [], _∷_}
-use Prim.Native.Nat.{ℕ, suc, _+_, _≤_, _<_}
+use Prim.Native.Nat.{ℕ, suc, _+_, _-_, _≤_, _<_}
 use native.Mathlib.Numerals.{add-one}
 use native.Mathlib.Omega.{arith}
 use borrow.Author.Tests.{eq-eqb, ne-eqb}
 use lib.ListN.{length, getD, take, drop, length-drop, drop-of-length-le}
-use lib.Seq.{drop-cons}
+use lib.Seq.{drop-cons, drop-drop}
 use lib.Dec.{eqb}
-use Rattle.register.specs.Lines.{lineFeed, joinLine, linesOf, lineLength}
+use Rattle.lines.specs.Lines.{lineFeed, joinLine, linesOf, lineLength, joined}
 
 -- ---- the length of the first line
 
@@ -74,3 +74,27 @@ line-front b s ih = by-feed (eqb b lineFeed) (longer s ih)
 pub lines-step : (s : List ℕ) → 0 < length s → linesOf s ≡ take (lineLength s) s ∷ linesOf (drop (lineLength s) s)
 lines-step [] h = absurd (omega arith)
 lines-step (b ∷ s) h = line-front b s (lines-step s)
+
+-- the line at a place, and those behind it
+pub lines-at : (s : List ℕ) (at end : ℕ) → at < length s → end ≡ at + lineLength (drop at s)
+    → linesOf (drop at s) ≡ take (end - at) (drop at s) ∷ linesOf (drop end s)
+lines-at s at end h e =
+    let n = length-drop at s in
+    let k : lineLength (drop at s) ≡ end - at = omega arith in
+    lines-step (drop at s) (omega arith)
+    ∙ ap₂ (λ (x : ℕ) (l : List ℕ). take x (drop at s) ∷ linesOf l) k (drop-drop (lineLength (drop at s)) at s ∙ ap (λ (x : ℕ). drop x s) (sym e))
+
+-- ---- the lines together
+
+pub joined-lines : (s : List ℕ) → joined (linesOf s) ≡ s
+unfolding linesOf joined
+joined-lines [] = refl
+joined-lines (b ∷ s) = by-feed (eqb b lineFeed) (joined-lines s)
+  where
+    front : (ls : List (List ℕ)) → joined (joinLine b ls) ≡ b ∷ joined ls
+    front [] = unfold joinLine joined in refl
+    front (l ∷ ls) = unfold joinLine joined in refl
+
+    by-feed : (t : Bool) → joined (linesOf s) ≡ s → joined (cond t ((b ∷ []) ∷ linesOf s) (joinLine b (linesOf s))) ≡ b ∷ s
+    by-feed true e = ap (λ (x : List ℕ). b ∷ x) e
+    by-feed false e = front (linesOf s) ∙ ap (λ (x : List ℕ). b ∷ x) e

@@ -14,8 +14,8 @@ use Rattle.laws.specs.Lists.{countOf}
 use Rattle.laws.specs.Each.{Each}
 use Rattle.laws.proofs.Members.{each-nil, each-cons, each-append}
 use Rattle.laws.proofs.Order.{le-or-lt}
-use Rattle.register.specs.Lines.{linesOf, joinLine, lineFeed}
-use Rattle.answers.specs.Output.{joined}
+use Rattle.lines.specs.Lines.{linesOf, joinLine, lineFeed, joined}
+use Rattle.lines.proofs.Lines.{lines-nil}
 
 -- no element is a line feed; so of no elements
 abbrev pub NoFeed : List ℕ → Type 0
@@ -46,10 +46,7 @@ lines-cut (l ∷ ls) rest h =
     ap linesOf (append-assoc l (joined ls) rest) ∙ first-cut l (joined ls ++ rest) (h .0) ∙ ap (λ (x : List (List ℕ)). l ∷ x) (lines-cut ls rest (h .1))
 
 pub lines-joined : (ls : List (List ℕ)) → Each Line ls → linesOf (joined ls) ≡ ls
-lines-joined ls h = ap linesOf (sym (append-nil (joined ls))) ∙ lines-cut ls [] h ∙ ap (λ (x : List (List ℕ)). ls ++ x) nothing ∙ append-nil ls
-  where
-    nothing : linesOf [] ≡ []
-    nothing = unfold linesOf in refl
+lines-joined ls h = ap linesOf (sym (append-nil (joined ls))) ∙ lines-cut ls [] h ∙ ap (λ (x : List (List ℕ)). ls ++ x) lines-nil ∙ append-nil ls
 
 pub joined-append : (ks ls : List (List ℕ)) → joined (ks ++ ls) ≡ joined ks ++ joined ls
 unfolding joined
