@@ -11,7 +11,8 @@ use lib.Dec.{ltb}
 use borrow.Author.Tests.{ltb-false}
 use Rattle.layouts.specs.declared.Written.{Written}
 use Rattle.lines.specs.Lines.{linesOf, lineLength}
-use Rattle.register.specs.Build.{blank, builtOf}
+use Rattle.postings.specs.Written.{blank}
+use Rattle.register.specs.Build.{builtOf}
 use Rattle.register.proofs.Names.{same-build}
 use Rattle.answers.specs.declared.Opened.{Opened}
 use Rattle.answers.specs.Output.{mostInput, registerEnd, registerOf, programWords, longestAnswer, openedOf, openWords, answerOf, fittingOf, fittedOf, lineText, respondedOf, answersText, outputOf}

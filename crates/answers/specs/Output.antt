@@ -11,7 +11,8 @@ use Rattle.layouts.specs.declared.Written.{Written}
 use Rattle.layouts.specs.Layouts.{isFrame, fieldsIn, nameIn, lineOf}
 use Rattle.frames.specs.Frames.{queryFrame, rowFrame, endFrame, refusalFrame}
 use Rattle.lines.specs.Lines.{linesOf, lineLength}
-use Rattle.register.specs.Build.{blank, builtOf, wordsAfter}
+use Rattle.postings.specs.Written.{blank}
+use Rattle.register.specs.Build.{builtOf, wordsAfter}
 use Rattle.search.specs.Method.{answersOf}
 use Rattle.search.specs.Answers.{searchOf, givenBy, idColumn, sharedColumn, sizeColumn}
 use Rattle.search.specs.declared.Answer.{Answer}

@@ -67,7 +67,7 @@ pub fn open(input: &[u8], words: &mut [u32]) -> Opened
     ensures { λ _. ⌜ now (words .exit) ≡ openWords (now (input .entry)) (now (words .entry)) ⌝ }
 {
     if MOST_INPUT < input.len() {
-        register::fill(words);
+        postings::fill(words);
         return Opened {
             number: 8,
             line: 0,

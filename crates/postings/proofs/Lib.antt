@@ -7,3 +7,6 @@ pub mod Entries
 pub mod Built
 pub mod Unique
 pub mod Pass
+pub mod Over
+pub mod Rows
+pub mod Parts

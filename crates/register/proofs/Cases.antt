@@ -15,7 +15,8 @@ use Rattle.layouts.specs.Layouts.{headSize, nameSize, laidOut, isFrame, fieldsO
 use Rattle.postings.specs.Built.{triplesOf, allTriples, joinRow, runsOf, listsOf, rowWords, wordsFrom, rowsOf, wordsOf}
 use Rattle.lines.specs.Lines.{joinLine, linesOf}
 use Rattle.register.specs.declared.Built.{Built}
-use Rattle.register.specs.Build.{nextFrom, judgeLine, takeLines, takenOf, builtOf, wordsAfter, blank}
+use Rattle.postings.specs.Written.{blank}
+use Rattle.register.specs.Build.{nextFrom, judgeLine, takeLines, takenOf, builtOf, wordsAfter}
 
 -- the line of a name by its bytes
 abbrev line : List ℕ → List ℕ

@@ -15,7 +15,8 @@ use Rattle.postings.specs.Built.{Entry, Fit, wordsOf}
 use Rattle.postings.proofs.Built.{fit-nil, fit-snoc, built-good}
 use Rattle.index.proofs.Laws.{refused-not-good}
 use Rattle.lines.specs.Lines.{linesOf}
-use Rattle.register.specs.Build.{nextId, judgeLine, entryOf, Taken, takeLines, takenOf, entriesOf, roomFor, blank, padTo, builtOf, wordsAfter}
+use Rattle.postings.specs.Written.{blank, padTo}
+use Rattle.register.specs.Build.{nextId, judgeLine, entryOf, Taken, takeLines, takenOf, entriesOf, roomFor, builtOf, wordsAfter}
 use Rattle.register.proofs.Judging.{good-line}
 use Rattle.register.proofs.Taking.{next-last, take-none, take-bad, take-good, entry-fit}
 

@@ -1,5 +1,4 @@
-pub mod Rows
-pub mod Over
+pub mod Pasted
 pub mod Judging
 pub mod Taking
 pub mod Ending

@@ -16,7 +16,8 @@ use Rattle.lists.specs.Lists.{listIn, featuresIn}
 use Rattle.postings.specs.Built.{Entry, noEntry, Fit, wordsOf}
 use Rattle.postings.proofs.Built.{built-name-count, built-id, built-size, built-list, built-listed, built-features}
 use Rattle.lines.specs.Lines.{linesOf, nthLine}
-use Rattle.register.specs.Build.{idIn, nameOf, judgeNth, entryOf, nextId, takenOf, entriesOf, blank, padTo, builtOf, wordsAfter}
+use Rattle.postings.specs.Written.{blank, padTo}
+use Rattle.register.specs.Build.{idIn, nameOf, judgeNth, entryOf, nextId, takenOf, entriesOf, builtOf, wordsAfter}
 use Rattle.register.proofs.Judging.{good-line}
 use Rattle.register.proofs.First.{none-bad, each-good}
 use Rattle.register.proofs.Laws.{fit-register, accepted-lines, accepted-words}

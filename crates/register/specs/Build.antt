@@ -13,6 +13,7 @@ use Rattle.layouts.specs.Layouts.{isFrame, fieldsIn, nameIn}
 use Rattle.frames.specs.Frames.{nameFrame}
 use Rattle.index.specs.Good.{mostNames}
 use Rattle.postings.specs.Built.{Entry, wordsOf}
+use Rattle.postings.specs.Written.{blank, fitsIn, padTo}
 use Rattle.lines.specs.Lines.{linesOf, nthLine}
 use Rattle.register.specs.declared.Built.{Built}
 
@@ -78,13 +79,9 @@ entriesOf register = takenOf register .entries
 
 -- ---- the whole
 
--- every bit set: what stands in a word that holds nothing of an index
-abbrev pub blank : ℕ
-blank = 4294967295
-
 -- whether the index of the names fits the room
 abbrev pub roomFor : List Entry → ℕ → Bool
-roomFor es room = leb (length (wordsOf es)) room
+roomFor es room = fitsIn room (wordsOf es)
 
 -- the answer of a build into so many words: the first bad line, then 8 and line 0 where the index does not fit, then 0 and 0
 unfoldable pub builtOf : List ℕ → ℕ → Built
@@ -92,10 +89,6 @@ builtOf register room =
     cond (eqb (takenOf register .number) 0)
     (cond (roomFor (entriesOf register) room) (record { number = 0; line = 0 }) (record { number = 8; line = 0 }))
     (record { number = takenOf register .number; line = takenOf register .line })
-
--- the words of a list, then blanks to the length
-abbrev pub padTo : ℕ → List ℕ → List ℕ
-padTo n l = l ++ replicate (n - length l) blank
 
 -- the words after a build: the index and then blanks, or blanks alone where the build is refused
 unfoldable pub wordsAfter : List ℕ → List ℕ → List ℕ

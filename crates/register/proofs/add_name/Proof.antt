@@ -11,7 +11,7 @@ use Rattle.names.specs.declared.FeatureSet.{FeatureSet}
 use Rattle.names.proofs.Laws.{size-most, feature-fits}
 use Rattle.words.specs.Words.{featureSpan}
 use Rattle.postings.specs.Built.{tripleOf}
-use Rattle.register.proofs.Over.{paste-front}
+use Rattle.register.proofs.Pasted.{paste-front}
 use Rattle.register.proofs.add_name.Statement.{statement}
 use Rattle.register.proofs.add_name.Tie as tie
 

@@ -1,16 +1,16 @@
 -- `build_with` meets its contract: the first bad line decides, then the room. Of each place of the code, what later places need is said once.
 use mathlib.Core.Path.{_≡_, sym, ap, _∙_}
-use mathlib.Core.Bool.{Bool, cond}
 use mathlib.Core.List.{List, _++_}
 use Prim.Native.Nat.{ℕ}
 use native.Mathlib.Omega.{arith}
 use borrow.Author.Needs.{needs}
 use lib.Dec.{leb}
-use lib.ListN.{length, take, drop, replicate, length-append}
+use lib.ListN.{length, take, drop, length-append}
 use lib.Seq.{length-take-le, take-at}
 use Rattle.laws.specs.Sort.{sortOf}
 use Rattle.postings.specs.Built.{runsOf, wordsFrom, wordsOf}
-use Rattle.register.specs.Build.{entriesOf, blank, padTo}
+use Rattle.postings.specs.Written.{writtenIn}
+use Rattle.register.specs.Build.{entriesOf}
 use Rattle.register.proofs.Ending.{Held, held, built-bad, built-over, built-in, words-of}
 use Rattle.register.proofs.build_with.Statement.{statement}
 use Rattle.register.proofs.build_with.Tie as tie
@@ -84,25 +84,25 @@ sorted-part : (c : tie.After-sort)
     → let x = c .before .before .before .before .before .before .before .before .before .before .take-lines in length (take (x .result .postings) (c .sort .last .0 ++ drop (x .result .postings) (x .last .1 .1 .1 .0))) ≡ x .result .postings
 sorted-part c = ap length (sorted c) ∙ c .sort .kept .0 ∙ postings-part (c .before .before .before)
 
-slice-reshare-prefix-finish : tie.Need-slice-reshare-prefix-finish
-slice-reshare-prefix-finish c = tables (c .before .before .before .before .before .before .before) .names-within
+slice-reshare-prefix-write-index : tie.Need-slice-reshare-prefix-write-index
+slice-reshare-prefix-write-index c = tables (c .before .before .before .before .before .before .before) .names-within
 
-slice-aggregate-finish : tie.Need-slice-aggregate-finish
-slice-aggregate-finish c = sym (names-part (c .before .before .before .before .before .before .before .before))
+slice-aggregate-write-index : tie.Need-slice-aggregate-write-index
+slice-aggregate-write-index c = sym (names-part (c .before .before .before .before .before .before .before .before))
 
-slice-reshare-prefix-finish-2 : tie.Need-slice-reshare-prefix-finish-2
-slice-reshare-prefix-finish-2 c =
+slice-reshare-prefix-write-index-2 : tie.Need-slice-reshare-prefix-write-index-2
+slice-reshare-prefix-write-index-2 c =
     let x = c .before .before .before .before .before .before .before .before .before .before .before .before .before .before .before .take-lines in
     let s = c .before .before .before .before .before .sort in
     let a = length-append (s .last .0) (drop (x .result .postings) (x .last .1 .1 .1 .0)) in
     let k = s .kept .0 ∙ postings-part (c .before .before .before .before .before .before .before .before) in
     omega arith
 
-slice-aggregate-finish-2 : tie.Need-slice-aggregate-finish-2
-slice-aggregate-finish-2 c = sym (sorted-part (c .before .before .before .before .before .before))
+slice-aggregate-write-index-2 : tie.Need-slice-aggregate-write-index-2
+slice-aggregate-write-index-2 c = sym (sorted-part (c .before .before .before .before .before .before))
 
-finish-requires : tie.Need-finish-requires
-finish-requires c κs =
+write-index-requires : tie.Need-write-index-requires
+write-index-requires c κs =
     let t = tables (c .before .before .before .before .before .before .before .before .before .before) in
     let n = names-part (c .before .before .before .before .before .before .before .before .before .before) in
     let p = sorted-part (c .before .before .before .before .before .before .before) in
@@ -138,14 +138,13 @@ returns-2 : tie.Need-returns-2
 returns-2 c =
     let a = c .before .before .before .before .before .before .before .before .before .before .before .before .before .before .before .before .before .before .before .before .before .before .before .before .before .before .before .before .before .before .before .args in
     let x = c .before .before .before .before .before .before .before .before .before .before .before .before .before .before .before .before .before .before .before .before .before .take-lines in
-    let y = c .before .before .before .finish .ensures in
+    let y = c .before .before .before .write-index .ensures in
     let w = a .words .now in
     let wf = indexed (c .before .before .before .before .before .before .before .before .before .before .before) in
-    let ks = take (x .result .postings) (c .before .before .before .before .before .before .before .before .before .before .before .sort .last .0 ++ drop (x .result .postings) (x .last .1 .1 .1 .0)) in
     let g = c .if2 .taken in
-    let r = built-in (a .register .now) w (sym (x .ensures .number) ∙ c .before .before .before .before .before .before .before .before .before .before .before .before .before .before .if1 .left) (ap (λ (l : List ℕ). leb (length l) (length w)) (sym wf) ∙ sym (y .fits) ∙ g) in (
+    let r = built-in (a .register .now) w (sym (x .ensures .number) ∙ c .before .before .before .before .before .before .before .before .before .before .before .before .before .before .if1 .left) (ap (λ (l : List ℕ). leb (length l) (length w)) (sym wf) ∙ sym (y .0) ∙ g) in (
       r .0,
-      y .words ∙ ap (λ (q : Bool). cond q (padTo (length w) (wordsFrom (take (x .result .names) (x .last .1 .1 .0)) (runsOf ks))) (replicate (length w) blank)) g ∙ ap (padTo (length w)) wf ∙ r .1,
+      y .1 ∙ ap (writtenIn (length w)) wf ∙ r .1,
     )
 
 same-length-10 : tie.Need-same-length-10
@@ -167,14 +166,13 @@ returns-3 : tie.Need-returns-3
 returns-3 c =
     let a = c .before .before .before .before .before .before .before .before .before .before .before .before .before .before .before .before .before .before .before .before .before .before .before .before .before .before .before .before .before .before .before .args in
     let x = c .before .before .before .before .before .before .before .before .before .before .before .before .before .before .before .before .before .before .before .before .before .take-lines in
-    let y = c .before .before .before .finish .ensures in
+    let y = c .before .before .before .write-index .ensures in
     let w = a .words .now in
     let wf = indexed (c .before .before .before .before .before .before .before .before .before .before .before) in
-    let ks = take (x .result .postings) (c .before .before .before .before .before .before .before .before .before .before .before .sort .last .0 ++ drop (x .result .postings) (x .last .1 .1 .1 .0)) in
     let g = c .if2 .left in
-    let r = built-over (a .register .now) w (sym (x .ensures .number) ∙ c .before .before .before .before .before .before .before .before .before .before .before .before .before .before .if1 .left) (ap (λ (l : List ℕ). leb (length l) (length w)) (sym wf) ∙ sym (y .fits) ∙ g) in (
+    let r = built-over (a .register .now) w (sym (x .ensures .number) ∙ c .before .before .before .before .before .before .before .before .before .before .before .before .before .before .if1 .left) (ap (λ (l : List ℕ). leb (length l) (length w)) (sym wf) ∙ sym (y .0) ∙ g) in (
       r .0,
-      y .words ∙ ap (λ (q : Bool). cond q (padTo (length w) (wordsFrom (take (x .result .names) (x .last .1 .1 .0)) (runsOf ks))) (replicate (length w) blank)) g ∙ r .1,
+      y .1 ∙ ap (writtenIn (length w)) wf ∙ r .1,
     )
 
 pub build-with-spec : {M : Type 1} → statement M
@@ -193,11 +191,11 @@ build-with-spec =
     slice-relend-prefix-sort-2
     slice-aggregate-sort-2
     sort-requires
-    slice-reshare-prefix-finish
-    slice-aggregate-finish
-    slice-reshare-prefix-finish-2
-    slice-aggregate-finish-2
-    finish-requires
+    slice-reshare-prefix-write-index
+    slice-aggregate-write-index
+    slice-reshare-prefix-write-index-2
+    slice-aggregate-write-index-2
+    write-index-requires
     same-length-5
     same-length-6
     same-length-7

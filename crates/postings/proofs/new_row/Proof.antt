@@ -4,9 +4,9 @@ use Prim.Native.Nat.{ℕ, _+_, _*_, _%_, _≤_, _<_, _-_}
 use native.Mathlib.Omega.{arith}
 use borrow.Author.Needs.{needs}
 use lib.ListN.{length, length-set}
-use Rattle.register.proofs.Over.{four-sets}
-use Rattle.register.proofs.new_row.Statement.{statement}
-use Rattle.register.proofs.new_row.Tie as tie
+use Rattle.postings.proofs.Over.{four-sets}
+use Rattle.postings.proofs.new_row.Statement.{statement}
+use Rattle.postings.proofs.new_row.Tie as tie
 
 cast-out : tie.Need-cast-out
 cast-out c = search needs

@@ -6,10 +6,10 @@ use native.Mathlib.Omega.{arith}
 use borrow.Author.Needs.{needs}
 use borrow.Rule.Slice.PartMut.{putMid}
 use lib.ListN.{length, set, length-set}
 use Rattle.postings.specs.Built.{runsOf, wordsFrom}
-use Rattle.register.proofs.Ending.{put-all, put-long, length-from}
-use Rattle.register.proofs.put_words.Statement.{statement}
-use Rattle.register.proofs.put_words.Tie as tie
+use Rattle.postings.proofs.Parts.{put-all, put-long, length-from}
+use Rattle.postings.proofs.put_words.Statement.{statement}
+use Rattle.postings.proofs.put_words.Tie as tie
 
 add-rows : tie.Need-add-rows
 add-rows c = search needs

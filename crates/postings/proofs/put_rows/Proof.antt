@@ -3,10 +3,10 @@ use mathlib.Core.Path.{_≡_, refl, sym, ap, ap₂, _∙_}
 use Prim.Native.Nat.{ℕ, _+_, _*_, _%_, _≤_, _<_, _-_}
 use native.Mathlib.Omega.{arith}
 use lib.ListN.{length}
-use Rattle.register.specs.Steps.{RowsAt}
-use Rattle.register.proofs.Rows.{at-nil, at-all}
-use Rattle.register.proofs.put_rows.Statement.{statement}
-use Rattle.register.proofs.put_rows.Tie as tie
+use Rattle.postings.specs.Steps.{RowsAt}
+use Rattle.postings.proofs.Rows.{at-nil, at-all}
+use Rattle.postings.proofs.put_rows.Statement.{statement}
+use Rattle.postings.proofs.put_rows.Tie as tie
 
 abbrev Inv-loop : tie.InvT-loop
 Inv-loop keys out₀ d₀ i₀ out d i = (i ≤ length keys) × (length out ≡ length out₀) × RowsAt keys i d out

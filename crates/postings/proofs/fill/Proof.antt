@@ -5,10 +5,10 @@ use Prim.Native.Nat.{ℕ, _+_, _*_, _%_, _≤_, _<_, _-_}
 use native.Mathlib.Omega.{arith}
 use lib.ListN.{length, set, replicate, length-set, length-replicate, getD-replicate}
 use Rattle.laws.proofs.Tables.{tableOver, over-nil, over-step}
-use Rattle.register.specs.Build.{blank}
-use Rattle.register.proofs.Over.{over-all}
-use Rattle.register.proofs.fill.Statement.{statement}
-use Rattle.register.proofs.fill.Tie as tie
+use Rattle.postings.specs.Written.{blank}
+use Rattle.postings.proofs.Over.{over-all}
+use Rattle.postings.proofs.fill.Statement.{statement}
+use Rattle.postings.proofs.fill.Tie as tie
 
 abbrev Inv-loop : tie.InvT-loop
 Inv-loop words₀ i₀ words i = (i ≤ length words₀) × (length words ≡ length words₀) × (words ≡ tableOver (λ (k : ℕ). blank) i words₀)

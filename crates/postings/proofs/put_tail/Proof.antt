@@ -6,9 +6,9 @@ use native.Mathlib.Omega.{arith}
 use borrow.Author.Needs.{needs}
 use lib.ListN.{length, drop}
 use lib.Seq.{length-take-le, take-at}
-use Rattle.register.proofs.Ending.{mid-end}
-use Rattle.register.proofs.put_tail.Statement.{statement}
-use Rattle.register.proofs.put_tail.Tie as tie
+use Rattle.postings.proofs.Parts.{mid-end}
+use Rattle.postings.proofs.put_tail.Statement.{statement}
+use Rattle.postings.proofs.put_tail.Tie as tie
 
 mul-rows : tie.Need-mul-rows
 mul-rows c = search needs

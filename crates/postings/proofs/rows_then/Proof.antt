@@ -4,9 +4,9 @@ use mathlib.Core.Bool.{Bool, cond}
 use Prim.Native.Nat.{ℕ, _+_, _*_, _%_, _≤_, _<_, _-_}
 use native.Mathlib.Omega.{arith}
 use borrow.Author.Needs.{needs}
-use Rattle.register.specs.Steps.{begins}
-use Rattle.register.proofs.rows_then.Statement.{statement}
-use Rattle.register.proofs.rows_then.Tie as tie
+use Rattle.postings.specs.Steps.{begins}
+use Rattle.postings.proofs.rows_then.Statement.{statement}
+use Rattle.postings.proofs.rows_then.Tie as tie
 
 begins-row-requires : tie.Need-begins-row-requires
 begins-row-requires c κs = search needs

@@ -6,10 +6,10 @@ use borrow.Author.Needs.{needs}
 use lib.ListN.{getD}
 use mathlib.Core.Bool.{Bool, true, not}
 use lib.Dec.{eqb}
 use Rattle.postings.specs.Built.{idSpan}
-use Rattle.register.specs.Steps.{begins}
-use Rattle.register.proofs.begins_row.Statement.{statement}
-use Rattle.register.proofs.begins_row.Tie as tie
+use Rattle.postings.specs.Steps.{begins}
+use Rattle.postings.proofs.begins_row.Statement.{statement}
+use Rattle.postings.proofs.begins_row.Tie as tie
 
 returns : tie.Need-returns
 unfolding begins

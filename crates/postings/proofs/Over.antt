@@ -1,10 +1,10 @@
--- A table written over the whole of a list. Assumes nothing.
+-- A table written over the whole of a list, and four words one behind the other. Assumes nothing.
 use mathlib.Core.Path.{_≡_, sym, ap, _∙_}
-use mathlib.Core.List.{List, [], _∷_, _++_, map, map-append, append-nil}
+use mathlib.Core.List.{List, [], _∷_, _++_, append-nil}
 use Prim.Native.Nat.{ℕ, suc, _+_, _<_}
 use native.Mathlib.Omega.{arith}
-use lib.ListN.{length, getD, take, drop, set, length-map}
-use lib.Seq.{drop-length, take-length, take-at, sets, paste}
+use lib.ListN.{length, getD, set}
+use lib.Seq.{drop-length, sets}
 use Rattle.laws.specs.Lists.{tabulate}
 use Rattle.laws.proofs.Images.{tabulate-of}
 use Rattle.laws.proofs.Tables.{tableOver}
@@ -14,13 +14,6 @@ over-all f l r d e same =
     ap (λ (t : List ℕ). tabulate f (length l) ++ t) (drop-length l)
     ∙ append-nil (tabulate f (length l))
     ∙ sym (tabulate-of f (length l) d r e same)
-
--- what a paste does not reach does not matter
-pub paste-front : (g : ℕ → ℕ) (f z d : List ℕ) (at : ℕ) → paste d at (map g (f ++ z)) (length f) ≡ paste d at (map g f) (length f)
-paste-front g f z d at =
-    let n = length-map f g in
-    ap (λ (l : List ℕ). take at d ++ l ++ drop (at + length f) d)
-    (ap (take (length f)) (map-append g f z) ∙ take-at (map g f) (map g z) (length f) n ∙ sym (take-length (map g f)) ∙ ap (λ (k : ℕ). take k (map g f)) n)
 
 -- four stores one behind the other
 pub four-sets : (l : List ℕ) (at a b c d : ℕ) → set (set (set (set l at a) (at + 1) b) (at + 2) c) (at + 3) d ≡ sets l at (a ∷ b ∷ c ∷ d ∷ [])

@@ -6,11 +6,11 @@ use Prim.Native.Nat.{ℕ, _+_, _*_, _%_, _≤_, _<_, _-_}
 use native.Mathlib.Omega.{arith}
 use lib.ListN.{length, take}
 use lib.Seq.{take-all}
 use Rattle.postings.specs.Built.{runsOf}
-use Rattle.register.specs.Steps.{begins}
-use Rattle.register.proofs.Rows.{rows-nil, rows-step, bit-most}
-use Rattle.register.proofs.count_rows.Statement.{statement}
-use Rattle.register.proofs.count_rows.Tie as tie
+use Rattle.postings.specs.Steps.{begins}
+use Rattle.postings.proofs.Rows.{rows-nil, rows-step, bit-most}
+use Rattle.postings.proofs.count_rows.Statement.{statement}
+use Rattle.postings.proofs.count_rows.Tie as tie
 
 abbrev Inv-loop : tie.InvT-loop
 Inv-loop keys d₀ i₀ d i = (i ≤ length keys) × (d ≤ i) × (d ≡ length (runsOf (take i keys)))

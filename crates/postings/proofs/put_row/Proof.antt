@@ -5,10 +5,10 @@ use Prim.Native.Nat.{ℕ, _+_, _*_, _%_, _≤_, _<_, _-_}
 use native.Mathlib.Omega.{arith}
 use borrow.Author.Needs.{needs}
 use lib.ListN.{length, getD}
-use Rattle.register.specs.Steps.{begins}
-use Rattle.register.proofs.Rows.{room-new, room-more, at-new, rows-some, last-short, at-more}
-use Rattle.register.proofs.put_row.Statement.{statement}
-use Rattle.register.proofs.put_row.Tie as tie
+use Rattle.postings.specs.Steps.{begins}
+use Rattle.postings.proofs.Rows.{room-new, room-more, at-new, rows-some, last-short, at-more}
+use Rattle.postings.proofs.put_row.Statement.{statement}
+use Rattle.postings.proofs.put_row.Tie as tie
 
 begins-row-requires : tie.Need-begins-row-requires
 begins-row-requires c κs = search needs

@@ -10,11 +10,11 @@ use lib.ListN.{length, getD, take, drop, set, length-append}
 use lib.Seq.{length-take-le, take-all, take-at, take-set-lt, getD-take, getD-append-add, sets, sets-eq}
 use lib.Dec.{eqb}
 use Rattle.words.specs.Words.{rowWidth, featureSpan}
 use Rattle.postings.specs.Built.{Row, oneRow, longerRow, idSpan, listsOf, runsOf, rowWords}
 use Rattle.postings.proofs.Runs.{length-runs}
 use Rattle.postings.proofs.Pass.{pass-new, pass-more}
 use Rattle.postings.proofs.Read.{length-row-words, row-words-append, words-new, words-more, lists-append}
-use Rattle.register.specs.Steps.{begins, RowsAt}
+use Rattle.postings.specs.Steps.{begins, RowsAt}
 
 -- ---- a new row, or a longer one
 

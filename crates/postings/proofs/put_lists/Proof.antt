@@ -1,28 +1,32 @@
--- `put_names` meets its contract: after i turns, the first i words are copied.
+-- `put_lists` meets its contract: after i turns, the ids of the first i postings are there.
 use mathlib.Core.Path.{_≡_, refl, sym, ap, ap₂, _∙_}
-use mathlib.Core.List.{List}
+use mathlib.Core.List.{List, map}
 use Prim.Native.Nat.{ℕ, _+_, _*_, _%_, _≤_, _<_, _-_}
 use native.Mathlib.Omega.{arith}
-use lib.ListN.{length, getD, set, length-set}
+use lib.ListN.{length, getD, set, length-set, length-map, List·getD-map}
 use Rattle.laws.proofs.Tables.{tableOver, over-nil, over-step}
-use Rattle.register.proofs.Over.{over-all}
-use Rattle.register.proofs.put_names.Statement.{statement}
-use Rattle.register.proofs.put_names.Tie as tie
+use Rattle.postings.specs.Built.{idSpan}
+use Rattle.postings.proofs.Over.{over-all}
+use Rattle.postings.proofs.put_lists.Statement.{statement}
+use Rattle.postings.proofs.put_lists.Tie as tie
 
 abbrev Inv-loop : tie.InvT-loop
-Inv-loop names out₀ i₀ out i = (i ≤ length names) × (length out ≡ length out₀) × (out ≡ tableOver (λ (k : ℕ). getD names k 0) i out₀)
+Inv-loop keys out₀ i₀ out i = (i ≤ length keys) × (length out ≡ length out₀) × (out ≡ tableOver (λ (k : ℕ). getD keys k 0 % idSpan) i out₀)
 
 abbrev μ-loop : tie.MeasureT-loop
-μ-loop names out₀ i₀ out i = length names - i
+μ-loop keys out₀ i₀ out i = length keys - i
 
 loop-holds : tie.Need-loop-holds Inv-loop μ-loop
-loop-holds c = (omega arith, refl, over-nil (λ (k : ℕ). getD (c .args .names .now) k 0) (c .args .out .now))
+loop-holds c = (omega arith, refl, over-nil (λ (k : ℕ). getD (c .args .keys .now) k 0 % idSpan) (c .args .out .now))
 
 mul-out : tie.Need-mul-out Inv-loop μ-loop
 mul-out c = omega arith
 
 shared-slice-read-out : tie.Need-shared-slice-read-out Inv-loop μ-loop
 shared-slice-read-out c = omega arith
+
+cast-out : tie.Need-cast-out Inv-loop μ-loop
+cast-out c = record { fits = omega arith }
 
 mul-out-2 : tie.Need-mul-out-2 Inv-loop μ-loop
 mul-out-2 c = omega arith
@@ -44,7 +48,7 @@ loop-again c =
     let t = c .before .loop-test .taken in (
       omega arith,
       simp length-set (l .loop .inv .1),
-      ap (λ (t : List ℕ). set t (l .loop .i) (getD (a .names .now) (l .loop .i) 0)) (l .loop .inv .2) ∙ over-step (λ (k : ℕ). getD (a .names .now) k 0) (l .loop .i) (a .out .now) (omega arith),
+      ap (λ (t : List ℕ). set t (l .loop .i) (getD (a .keys .now) (l .loop .i) 0 % idSpan)) (l .loop .inv .2) ∙ over-step (λ (k : ℕ). getD (a .keys .now) k 0 % idSpan) (l .loop .i) (a .out .now) (omega arith),
     )
 
 same-length : tie.Need-same-length Inv-loop μ-loop
@@ -57,11 +61,12 @@ returns c =
     let p = l .before .pre in
     let e : l .loop .i ≡ length (a .out .now) = omega arith in
     l .loop .inv .2
-    ∙ ap (λ (n : ℕ). tableOver (λ (k : ℕ). getD (a .names .now) k 0) n (a .out .now)) e
-    ∙ over-all (λ (k : ℕ). getD (a .names .now) k 0) (a .out .now) (a .names .now) 0 (sym p) (λ k h. refl)
+    ∙ ap (λ (n : ℕ). tableOver (λ (k : ℕ). getD (a .keys .now) k 0 % idSpan) n (a .out .now)) e
+    ∙ over-all (λ (k : ℕ). getD (a .keys .now) k 0 % idSpan) (a .out .now) (map (λ (k : ℕ). k % idSpan) (a .keys .now)) (0 % idSpan)
+    (length-map (a .keys .now) (λ (k : ℕ). k % idSpan) ∙ sym p) (λ k h. List·getD-map (λ (x : ℕ). x % idSpan) (a .keys .now) k 0)
 
-pub put-names-spec : {M : Type 1} → statement M
-put-names-spec =
+pub put-lists-spec : {M : Type 1} → statement M
+put-lists-spec =
     tie.close
     (tie.spec
     Inv-loop
@@ -69,6 +74,7 @@ put-names-spec =
     loop-holds
     mul-out
     shared-slice-read-out
+    cast-out
     mul-out-2
     slice-write-out
     add-i

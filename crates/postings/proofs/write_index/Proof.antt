@@ -1,4 +1,4 @@
--- `finish` meets its contract: the index where it fits, blanks behind it or alone.
+-- `write_index` meets its contract: the index where it fits, blanks behind it or alone.
 use mathlib.Core.Path.{_≡_, refl, sym, ap, ap₂, _∙_}
 use mathlib.Core.List.{List, _++_}
 use Prim.Native.Nat.{ℕ, _+_, _*_, _%_, _≤_, _<_, _-_}
@@ -7,11 +7,11 @@ use borrow.Author.Needs.{needs}
 use borrow.Author.Tests.{le-leb, lt-leb}
 use lib.ListN.{length, drop, replicate, length-append, length-drop}
 use lib.Seq.{length-take-le, take-at}
 use Rattle.postings.specs.Built.{runsOf, wordsFrom}
-use Rattle.register.specs.Build.{blank, padTo}
-use Rattle.register.proofs.Ending.{mid-end, length-mid, length-from}
-use Rattle.register.proofs.finish.Statement.{statement}
-use Rattle.register.proofs.finish.Tie as tie
+use Rattle.postings.specs.Written.{blank}
+use Rattle.postings.proofs.Parts.{mid-end, length-mid, length-from, written-all, written-none}
+use Rattle.postings.proofs.write_index.Statement.{statement}
+use Rattle.postings.proofs.write_index.Tie as tie
 
 count-rows-requires : tie.Need-count-rows-requires
 count-rows-requires c κs = search needs
@@ -44,7 +44,8 @@ returns c =
     let r1 = c .before .before .before .before .before .count-rows .ensures .1 in
     let n = length-from (a .names .now) (a .keys .now) in
     let t = c .before .before .before .before .if1 .taken in
-    record { fits = sym (lt-leb (length (wordsFrom (a .names .now) (runsOf (a .keys .now)))) (length (a .words .now)) (omega arith)); words = c .before .before .fill .ensures }
+    let f = lt-leb (length (wordsFrom (a .names .now) (runsOf (a .keys .now)))) (length (a .words .now)) (omega arith) in
+    (sym f, c .before .before .fill .ensures ∙ sym (written-none (length (a .words .now)) (wordsFrom (a .names .now) (runsOf (a .keys .now))) f))
 
 slice-relend-prefix-put-words : tie.Need-slice-relend-prefix-put-words
 slice-relend-prefix-put-words c = search needs
@@ -110,15 +111,15 @@ returns-2 c =
     let ld = length-drop k (a .words .now) in
     let lm = length-mid k (length w - k) w refl in
     let left : length w - k ≡ length (a .words .now) - length (wordsFrom (a .names .now) (runsOf (a .keys .now))) = omega arith in
-    record {
-      fits = sym (le-leb (length (wordsFrom (a .names .now) (runsOf (a .keys .now)))) (length (a .words .now)) (omega arith));
-      words =
-          mid-end k (length w - k) w (c .before .before .fill2 .last .0) (omega arith)
-          ∙ ap₂ _++_ (take-at r (drop k (a .words .now)) k lr ∙ y .ensures) (c .before .before .fill2 .ensures ∙ ap (λ (j : ℕ). replicate j blank) (lm ∙ left));
-    }
+    let f = le-leb (length (wordsFrom (a .names .now) (runsOf (a .keys .now)))) (length (a .words .now)) (omega arith) in (
+      sym f,
+      mid-end k (length w - k) w (c .before .before .fill2 .last .0) (omega arith)
+          ∙ ap₂ _++_ (take-at r (drop k (a .words .now)) k lr ∙ y .ensures) (c .before .before .fill2 .ensures ∙ ap (λ (j : ℕ). replicate j blank) (lm ∙ left))
+          ∙ sym (written-all (length (a .words .now)) (wordsFrom (a .names .now) (runsOf (a .keys .now))) f),
+    )
 
-pub finish-spec : {M : Type 1} → statement M
-finish-spec =
+pub write-index-spec : {M : Type 1} → statement M
+write-index-spec =
     tie.close
     (tie.spec
     count-rows-requires
