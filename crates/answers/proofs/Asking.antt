@@ -24,12 +24,12 @@ use Rattle.words.specs.Words.{nameCount, nameId, nameSize}
 use Rattle.index.specs.Good.{Good}
 use Rattle.index.proofs.Laws.{good-name-within}
 use Rattle.search.specs.Method.{sharedWith, answersOf}
-use Rattle.search.specs.Answers.{numberIn, rowsIn, searchOf, givenBy, roomOf, over, idColumn, sharedColumn, sizeColumn}
+use Rattle.search.specs.Answers.{numberIn, rowsIn, searchOf, Columns, roomOf, columnsOf, over, columnsOver, placesGiven, Searched}
 use Rattle.search.specs.declared.Answer.{Answer}
 use Rattle.search.specs.declared.Answer.the-variants.{Found, Refused}
 use Rattle.search.proofs.Found.{refused-empty, given-found, Answered, answered, shared-most}
 use Rattle.search.proofs.Listed.{over-at, answer-place}
-use Rattle.answers.specs.Output.{rowLine, endLine, refusalLine, rowsText, foundText, answerText, rowsLent, queryIn, measureIn, pIn, qIn, allowanceIn, searchFor, placesFor, answerOf}
+use Rattle.answers.specs.Output.{rowLine, endLine, refusalLine, rowsText, foundText, answerText, rowsLent, queryIn, measureIn, pIn, qIn, allowanceIn, searchFor, columnsFor, answerOf}
 use Rattle.answers.specs.Rows.{Shown}
 
 -- ---- what was read
@@ -56,7 +56,7 @@ module _ (line buffer after : List ℕ) (r : QueryRead) (room : length buffer �
     where
       by-test : (t : Bool) → isFrame queryFrame line ≡ t
           → refusalLine (r .number) 0
-          ≡ cond t (answerText (searchFor w line) (idColumn w (placesFor w line)) (sharedColumn w (featuresOf (queryIn line)) (placesFor w line)) (sizeColumn w (placesFor w line))) (refusalLine 11 0)
+          ≡ cond t (answerText (searchFor w line) (columnsFor w line)) (refusalLine 11 0)
       by-test true f = absurd (n (ap (λ (x : Reading). x .number) (read-as true f)))
       by-test false f = ap (λ (k : ℕ). refusalLine k 0) (ap (λ (x : Reading). x .number) (read-as false f))
 
@@ -98,69 +98,82 @@ module _ (line buffer after : List ℕ) (r : QueryRead) (room : length buffer �
 
 -- ---- the rows that are shown
 
--- equal columns up to n give equal lines
-pub rows-same : (a b c a′ b′ c′ : List ℕ) (n : ℕ) → ((k : ℕ) → k < n → getD a k 0 ≡ getD a′ k 0) → ((k : ℕ) → k < n → getD b k 0 ≡ getD b′ k 0)
-    → ((k : ℕ) → k < n → getD c k 0 ≡ getD c′ k 0) → rowsText a b c n ≡ rowsText a′ b′ c′ n
-unfolding rowsText
-rows-same a b c a′ b′ c′ zero e f g = refl
-rows-same a b c a′ b′ c′ (suc n) e f g =
-    ap₂ (λ (x y : List ℕ). x ++ y)
-    (rows-same a b c a′ b′ c′ n (λ k h. e k (omega arith)) (λ k h. f k (omega arith)) (λ k h. g k (omega arith)))
-    (ap₂ (λ (i s : ℕ). rowLine i s (getD c n 0)) (e n (omega arith)) (f n (omega arith))
-    ∙ ap (rowLine (getD a′ n 0) (getD b′ n 0)) (g n (omega arith)))
+-- columns that agree up to n give equal lines
+Agree : Columns → Columns → ℕ → Type 0
+Agree c d n = (k : ℕ) → k < n → (getD (c .ids) k 0 ≡ getD (d .ids) k 0) × (getD (c .shared) k 0 ≡ getD (d .shared) k 0) × (getD (c .sizes) k 0 ≡ getD (d .sizes) k 0)
 
-module _ (s : List ℕ) (m p q allowance : ℕ) (w ids shared sizes i′ s′ z′ : List ℕ) (r : Answer) (asked : r ≡ searchOf s m p q allowance w rowsLent)
-    (in-ids : i′ ≡ over (idColumn w (givenBy r (answersOf w m p q (featuresOf s)))) ids)
-    (in-shared : s′ ≡ over (sharedColumn w (featuresOf s) (givenBy r (answersOf w m p q (featuresOf s)))) shared)
-    (in-sizes : z′ ≡ over (sizeColumn w (givenBy r (answersOf w m p q (featuresOf s)))) sizes) where
+rows-same : (c d : Columns) (n : ℕ) → Agree c d n → rowsText c n ≡ rowsText d n
+unfolding rowsText Agree
+rows-same c d zero e = refl
+rows-same c d (suc n) e =
+    let h = e n (omega arith) in
+    ap₂ (λ (x y : List ℕ). x ++ y) (rows-same c d n (λ k l. e k (omega arith))) (λ t. rowLine (h .0 t) (h .1 t) (h .2 t))
+
+text-agrees : (r : Answer) (c d : Columns) → (numberIn r ≡ 0 → Agree c d (rowsIn r)) → answerText r c ≡ answerText r d
+unfolding answerText foundText
+text-agrees (Found n t p q) c d e = ap (λ (x : List ℕ). x ++ endLine n t p q) (rows-same c d n (e refl))
+text-agrees (Refused n t) c d e = refl
+
+-- a search with as much room as the program lends, of columns that are lent
+module _ (s : List ℕ) (m p q allowance : ℕ) (w : List ℕ) (before after : Columns) (r : Answer) (room : roomOf before ≡ rowsLent)
+    (searched : Searched s m p q allowance w before after r) where
   places : List ℕ
   places = answersOf w m p q (featuresOf s)
+
+  asked : r ≡ searchOf s m p q allowance w rowsLent
+  asked = searched .answer ∙ ap (searchOf s m p q allowance w) room
 
   facts : numberIn r ≡ 0 → Answered s m p q allowance w rowsLent
   facts n = answered s m p q allowance w rowsLent (sym (ap numberIn asked) ∙ n)
 
-  given : numberIn r ≡ 0 → givenBy r (answersOf w m p q (featuresOf s)) ≡ answersOf w m p q (featuresOf s)
-  given n = given-found r _ _ _ _ (answersOf w m p q (featuresOf s)) (asked ∙ facts n .form)
-
-  rows : numberIn r ≡ 0 → rowsIn r ≡ length (answersOf w m p q (featuresOf s))
+  rows : numberIn r ≡ 0 → rowsIn r ≡ length places
+  unfolding places
   rows n = ap rowsIn (asked ∙ facts n .form)
 
-  -- a column at row k
-  at : (f : ℕ → ℕ) (l l′ : List ℕ) → l′ ≡ over (map f (givenBy r (answersOf w m p q (featuresOf s)))) l → numberIn r ≡ 0
-      → (k : ℕ) → k < rowsIn r → getD l′ k 0 ≡ f (getD (answersOf w m p q (featuresOf s)) k 0)
-  at f l l′ e n k h =
-      let c = rows n in
-      ap (λ (x : List ℕ). getD x k 0) (e ∙ ap (λ (x : List ℕ). over (map f x) l) (given n)) ∙ over-at f (answersOf w m p q (featuresOf s)) l k (omega arith)
+  -- the columns of an answer
+  left : numberIn r ≡ 0 → after ≡ columnsOver (columnsOf w (featuresOf s) places) before
+  unfolding places
+  left n =
+      searched .columns
+      ∙ ap (λ (l : List ℕ). columnsOver (columnsOf w (featuresOf s) l) before)
+      (given-found (searchOf s m p q allowance w (roomOf before)) _ _ _ _ (answersOf w m p q (featuresOf s)) (sym (searched .answer) ∙ asked ∙ facts n .form))
 
-  long : (f : ℕ → ℕ) (l l′ : List ℕ) → l′ ≡ over (map f (givenBy r (answersOf w m p q (featuresOf s)))) l → numberIn r ≡ 0 → rowsIn r ≤ length l′
-  long f l l′ e n =
+  -- a column at row k
+  at : (f : ℕ → ℕ) (l : List ℕ) → numberIn r ≡ 0 → (k : ℕ) → k < rowsIn r → getD (over (map f places) l) k 0 ≡ f (getD places k 0)
+  at f l n k h = let c = rows n in over-at f places l k (omega arith)
+
+  long : (f : ℕ → ℕ) (l : List ℕ) → numberIn r ≡ 0 → rowsIn r ≤ length (over (map f places) l)
+  long f l n =
       let c = rows n in
-      let d = ap length (e ∙ ap (λ (x : List ℕ). over (map f x) l) (given n)) in
-      let g = length-append (map f (answersOf w m p q (featuresOf s))) (drop (length (map f (answersOf w m p q (featuresOf s)))) l) in
-      let o = length-map (answersOf w m p q (featuresOf s)) f in
+      let g = length-append (map f places) (drop (length (map f places)) l) in
+      let o = length-map places f in
       omega arith
 
-  name : numberIn r ≡ 0 → (k : ℕ) → k < rowsIn r → getD (answersOf w m p q (featuresOf s)) k 0 < nameCount w
+  name : numberIn r ≡ 0 → (k : ℕ) → k < rowsIn r → getD places k 0 < nameCount w
+  unfolding places
   name n k h =
       let c = rows n in
       answer-place w m p q (featuresOf s) (getD (answersOf w m p q (featuresOf s)) k 0) (member-at (answersOf w m p q (featuresOf s)) k (omega arith)) .0
 
-  pub shown : Shown i′ s′ z′ (rowsIn r)
-  shown =
-      ⊎-elim
-      (λ (n : numberIn r ≡ 0).
+  shown-left : numberIn r ≡ 0 → Shown (columnsOver (columnsOf w (featuresOf s) places) before) (rowsIn r)
+  shown-left n =
       let c = rows n in
       let fits = facts n .fits in
       let good = facts n .asked .good in
       record {
-        few = omega arith;
-        in-ids = long (nameId w) ids i′ in-ids n;
-        in-shared = long (sharedWith w (featuresOf s)) shared s′ in-shared n;
-        in-sizes = long (nameSize w) sizes z′ in-sizes n;
-        id = λ k h. (let e = at (nameId w) ids i′ in-ids n k h in let b = good-name-within w good _ (name n k h) in let b0 = b .0 in omega arith);
-        share = λ k h. (let e = at (sharedWith w (featuresOf s)) shared s′ in-shared n k h in let b = shared-most w (featuresOf s) (getD (answersOf w m p q (featuresOf s)) k 0) in let d = size-most s in omega arith);
-        size = λ k h. (let e = at (nameSize w) sizes z′ in-sizes n k h in let b = good-name-within w good _ (name n k h) in let b2 = b .2 in omega arith);
-      })
+        few = unfold places in omega arith;
+        in-ids = long (nameId w) (before .ids) n;
+        in-shared = long (sharedWith w (featuresOf s)) (before .shared) n;
+        in-sizes = long (nameSize w) (before .sizes) n;
+        id = λ k h. (let e = at (nameId w) (before .ids) n k h in let b = good-name-within w good _ (name n k h) in let b0 = b .0 in omega arith);
+        share = λ k h. (let e = at (sharedWith w (featuresOf s)) (before .shared) n k h in let b = shared-most w (featuresOf s) (getD places k 0) in let d = size-most s in omega arith);
+        size = λ k h. (let e = at (nameSize w) (before .sizes) n k h in let b = good-name-within w good _ (name n k h) in let b2 = b .2 in omega arith);
+      }
+
+  pub shown : Shown after (rowsIn r)
+  shown =
+      ⊎-elim
+      (λ (n : numberIn r ≡ 0). subst (λ (c : Columns). Shown c (rowsIn r)) (sym (left n)) (shown-left n))
       (λ (n : numberIn r ≡ 0 → ⊥).
       let z = refused-empty r n .0 in
       record {
@@ -175,46 +188,31 @@ module _ (s : List ℕ) (m p q allowance : ℕ) (w ids shared sizes i′ s′ z�
       (eq-or-ne (numberIn r) 0)
 
   -- the text of the lent columns is that of the given rows
-  pub text-same : answerText r i′ s′ z′
-      ≡ answerText r (idColumn w (givenBy r (answersOf w m p q (featuresOf s)))) (sharedColumn w (featuresOf s) (givenBy r (answersOf w m p q (featuresOf s)))) (sizeColumn w (givenBy r (answersOf w m p q (featuresOf s))))
-  text-same = by-case r i′ s′ z′ _ _ _ same-ids same-shared same-sizes
+  pub text-same : answerText r after ≡ answerText r (columnsOf w (featuresOf s) (placesGiven s m p q allowance w rowsLent))
+  unfolding places Agree
+  text-same =
+      text-agrees r after (columnsOf w (featuresOf s) (placesGiven s m p q allowance w rowsLent))
+      (λ n.
+      let given = given-found (searchOf s m p q allowance w rowsLent) _ _ _ _ (answersOf w m p q (featuresOf s)) (facts n .form) in
+      subst (λ (c : Columns). Agree c (columnsOf w (featuresOf s) (placesGiven s m p q allowance w rowsLent)) (rowsIn r)) (sym (left n))
+      (subst (λ (l : List ℕ). Agree (columnsOver (columnsOf w (featuresOf s) (answersOf w m p q (featuresOf s))) before) (columnsOf w (featuresOf s) l) (rowsIn r)) (sym given)
+      (λ k h. (start (nameId w) (before .ids) n k h, start (sharedWith w (featuresOf s)) (before .shared) n k h, start (nameSize w) (before .sizes) n k h))))
     where
-      column : (f : ℕ → ℕ) (l l′ : List ℕ) → l′ ≡ over (map f (givenBy r (answersOf w m p q (featuresOf s)))) l → numberIn r ≡ 0 → (k : ℕ) → k < rowsIn r
-          → getD l′ k 0 ≡ getD (map f (givenBy r (answersOf w m p q (featuresOf s)))) k 0
-      column f l l′ e n k h =
+      start : (f : ℕ → ℕ) (l : List ℕ) → numberIn r ≡ 0 → (k : ℕ) → k < rowsIn r
+          → getD (over (map f (answersOf w m p q (featuresOf s))) l) k 0 ≡ getD (map f (answersOf w m p q (featuresOf s))) k 0
+      start f l n k h =
           let c = rows n in
-          let g = ap length (given n) in
-          let o = length-map (givenBy r (answersOf w m p q (featuresOf s))) f in
-          ap (λ (x : List ℕ). getD x k 0) e
-          ∙ List·getD-append (map f (givenBy r (answersOf w m p q (featuresOf s)))) (drop (length (map f (givenBy r (answersOf w m p q (featuresOf s))))) l) 0 k (omega arith)
+          let o = length-map (answersOf w m p q (featuresOf s)) f in
+          List·getD-append (map f (answersOf w m p q (featuresOf s))) (drop (length (map f (answersOf w m p q (featuresOf s)))) l) 0 k (omega arith)
 
-      same-ids : numberIn r ≡ 0 → (k : ℕ) → k < rowsIn r → getD i′ k 0 ≡ getD (idColumn w (givenBy r (answersOf w m p q (featuresOf s)))) k 0
-      same-ids = column (nameId w) ids i′ in-ids
+  -- and so that of the 51 line which asks for the search
+  pub answer-as : (line : List ℕ) → isFrame queryFrame line ≡ true → s ≡ queryIn line → m ≡ measureIn line → p ≡ pIn line → q ≡ qIn line
+      → allowance ≡ allowanceIn line → answerText r after ≡ answerOf w line
+  answer-as line f es em ep eq ea = text-same ∙ ap (λ (x : Answer). answerText x (columnsOf w (featuresOf s) (placesGiven s m p q allowance w rowsLent))) asked ∙ same
+    where
+      same : answerText (searchOf s m p q allowance w rowsLent) (columnsOf w (featuresOf s) (placesGiven s m p q allowance w rowsLent)) ≡ answerOf w line
+      same = unfold answerOf in rw (f, es, em, ep, eq, ea) refl
 
-      same-shared : numberIn r ≡ 0 → (k : ℕ) → k < rowsIn r → getD s′ k 0 ≡ getD (sharedColumn w (featuresOf s) (givenBy r (answersOf w m p q (featuresOf s)))) k 0
-      same-shared = column (sharedWith w (featuresOf s)) shared s′ in-shared
-
-      same-sizes : numberIn r ≡ 0 → (k : ℕ) → k < rowsIn r → getD z′ k 0 ≡ getD (sizeColumn w (givenBy r (answersOf w m p q (featuresOf s)))) k 0
-      same-sizes = column (nameSize w) sizes z′ in-sizes
-
-      found-same : (n t p q : ℕ) (a b c a′ b′ c′ : List ℕ) → ((k : ℕ) → k < n → getD a k 0 ≡ getD a′ k 0) → ((k : ℕ) → k < n → getD b k 0 ≡ getD b′ k 0)
-          → ((k : ℕ) → k < n → getD c k 0 ≡ getD c′ k 0) → foundText n t p q a b c ≡ foundText n t p q a′ b′ c′
-      found-same n t p q a b c a′ b′ c′ e f g = unfold foundText in ap (λ (x : List ℕ). x ++ endLine n t p q) (rows-same a b c a′ b′ c′ n e f g)
-
-      by-case : (x : Answer) (a b c a′ b′ c′ : List ℕ) → (numberIn x ≡ 0 → (k : ℕ) → k < rowsIn x → getD a k 0 ≡ getD a′ k 0)
-          → (numberIn x ≡ 0 → (k : ℕ) → k < rowsIn x → getD b k 0 ≡ getD b′ k 0) → (numberIn x ≡ 0 → (k : ℕ) → k < rowsIn x → getD c k 0 ≡ getD c′ k 0)
-          → answerText x a b c ≡ answerText x a′ b′ c′
-      by-case (Found n t p q) a b c a′ b′ c′ e f g = unfold answerText in found-same n t p q a b c a′ b′ c′ (e refl) (f refl) (g refl)
-      by-case (Refused n t) a b c a′ b′ c′ e f g = unfold answerText in refl
-
--- the answer of a 51 line
-pub answer-as : (w line s : List ℕ) (m p q allowance : ℕ) (r : Answer) → isFrame queryFrame line ≡ true → s ≡ queryIn line → m ≡ measureIn line → p ≡ pIn line
-    → q ≡ qIn line → allowance ≡ allowanceIn line → r ≡ searchOf s m p q allowance w rowsLent
-    → answerText r (idColumn w (givenBy r (answersOf w m p q (featuresOf s)))) (sharedColumn w (featuresOf s) (givenBy r (answersOf w m p q (featuresOf s)))) (sizeColumn w (givenBy r (answersOf w m p q (featuresOf s))))
-    ≡ answerOf w line
-unfolding answerOf
-answer-as w line s m p q allowance r f es em ep eq ea er = rw (f, er, es, em, ep, eq, ea) refl
-
--- the room of three columns of as many rows as are lent
-pub room-lent : (a b c : List ℕ) → length a ≡ rowsLent → length b ≡ rowsLent → length c ≡ rowsLent → roomOf a b c ≡ rowsLent
-room-lent a b c e f g = rw (e, f, g) refl
+-- the room of columns of as many rows as are lent
+pub room-lent : (c : Columns) → length (c .ids) ≡ rowsLent → length (c .shared) ≡ rowsLent → length (c .sizes) ≡ rowsLent → roomOf c ≡ rowsLent
+room-lent c e f g = rw (e, f, g) refl

@@ -22,11 +22,11 @@ use Rattle.layouts.proofs.Layouts.{frame-other, frame-well-formed}
 use Rattle.layouts.proofs.Laws.{frame-line}
 use Rattle.frames.specs.Frames.{queryFrame, rowFrame, endFrame, refusalFrame}
 use Rattle.lines.specs.Lines.{linesOf, joined}
-use Rattle.search.specs.Answers.{idColumn, sharedColumn, sizeColumn}
+use Rattle.search.specs.Answers.{Columns}
 use Rattle.search.specs.declared.Answer.{Answer}
 use Rattle.search.specs.declared.Answer.the-variants.{Found, Refused}
 use Rattle.answers.specs.declared.Opened.{Opened}
-use Rattle.answers.specs.Output.{rowLine, endLine, refusalLine, rowsText, foundText, answerText, queryIn, searchFor, placesFor, answerOf, endsAnswer, answerLines, queriesOf, openedOf, openWords, programWords, answersText, outputOf}
+use Rattle.answers.specs.Output.{rowLine, endLine, refusalLine, rowText, rowsText, foundText, answerText, queryIn, searchFor, columnsFor, answerOf, endsAnswer, answerLines, queriesOf, openedOf, openWords, programWords, answersText, outputOf}
 use Rattle.lines.proofs.Cut.{Line, Ended, lines-joined, joined-append, ended-behind, ended-each, broken-fewer}
 use Rattle.answers.proofs.Reading.{one-line}
 use Rattle.answers.proofs.Responding.{output-opened, output-refused}
@@ -88,46 +88,43 @@ refusal-ended number touches =
 
 -- ---- the lines of one answer
 
-module _ (ids shared sizes : List ℕ) where
-  row : ℕ → List ℕ
-  row k = rowLine (getD ids k 0) (getD shared k 0) (getD sizes k 0)
-
-  rows-joined : (n : ℕ) → rowsText ids shared sizes n ≡ joined (tabulate row n)
-  unfolding rowsText tabulate joined row
+module _ (c : Columns) where
+  rows-joined : (n : ℕ) → rowsText c n ≡ joined (tabulate (rowText c) n)
+  unfolding rowsText tabulate joined
   rows-joined zero = refl
   rows-joined (suc n) =
-      ap₂ _++_ (rows-joined n) (sym (append-nil (row n))) ∙ sym (joined-append (tabulate row n) (row n ∷ []))
+      ap₂ _++_ (rows-joined n) (sym (append-nil (rowText c n))) ∙ sym (joined-append (tabulate (rowText c) n) (rowText c n ∷ []))
 
-  rows-go-on : (n : ℕ) → countOf endsAnswer (tabulate row n) ≡ 0
-  unfolding tabulate countOf row
+  rows-go-on : (n : ℕ) → countOf endsAnswer (tabulate (rowText c) n) ≡ 0
+  unfolding tabulate countOf
   rows-go-on zero = refl
   rows-go-on (suc n) =
-      count-append endsAnswer (tabulate row n) (row n ∷ [])
-      ∙ ap₂ _+_ (rows-go-on n) (ap (λ (b : Bool). cond b 1 0 + 0) (row-goes-on (getD ids n 0) (getD shared n 0) (getD sizes n 0)))
+      count-append endsAnswer (tabulate (rowText c) n) (rowText c n ∷ [])
+      ∙ ap₂ _+_ (rows-go-on n) (ap (λ (b : Bool). cond b 1 0 + 0) (row-goes-on (getD (c .ids) n 0) (getD (c .shared) n 0) (getD (c .sizes) n 0)))
 
-  answer-joined : (r : Answer) → answerText r ids shared sizes ≡ joined (answerLines r ids shared sizes)
-  unfolding answerText foundText answerLines joined row
+  answer-joined : (r : Answer) → answerText r c ≡ joined (answerLines r c)
+  unfolding answerText foundText answerLines joined
   answer-joined (Found rows touches p q) =
-      ap₂ _++_ (rows-joined rows) (sym (append-nil (endLine rows touches p q))) ∙ sym (joined-append (tabulate row rows) (endLine rows touches p q ∷ []))
+      ap₂ _++_ (rows-joined rows) (sym (append-nil (endLine rows touches p q))) ∙ sym (joined-append (tabulate (rowText c) rows) (endLine rows touches p q ∷ []))
   answer-joined (Refused number touches) = sym (append-nil (refusalLine number touches))
 
-  answer-ended : (r : Answer) → Ended endsAnswer (answerLines r ids shared sizes)
-  unfolding answerLines row
+  answer-ended : (r : Answer) → Ended endsAnswer (answerLines r c)
+  unfolding answerLines
   answer-ended (Found rows touches p q) =
       record {
-        before = tabulate row rows;
+        before = tabulate (rowText c) rows;
         last = endLine rows touches p q;
         split = refl;
-        each = each-tabulate Line row rows (λ k h. one-line rowFrame (getD ids k 0 ∷ getD shared k 0 ∷ getD sizes k 0 ∷ []));
+        each = each-tabulate Line (rowText c) rows (λ k h. one-line rowFrame (getD (c .ids) k 0 ∷ getD (c .shared) k 0 ∷ getD (c .sizes) k 0 ∷ []));
         line = one-line endFrame (rows ∷ touches ∷ p ∷ q ∷ []);
         passes = end-ends rows touches p q;
       }
   answer-ended (Refused number touches) = refusal-ended number touches
 
-  answer-once : (r : Answer) → countOf endsAnswer (answerLines r ids shared sizes) ≡ 1
-  unfolding answerLines countOf row
+  answer-once : (r : Answer) → countOf endsAnswer (answerLines r c) ≡ 1
+  unfolding answerLines countOf
   answer-once (Found rows touches p q) =
-      count-append endsAnswer (tabulate row rows) (endLine rows touches p q ∷ [])
+      count-append endsAnswer (tabulate (rowText c) rows) (endLine rows touches p q ∷ [])
       ∙ ap₂ _+_ (rows-go-on rows) (ap (λ (b : Bool). cond b 1 0 + 0) (end-ends rows touches p q))
   answer-once (Refused number touches) = ap (λ (b : Bool). cond b 1 0 + 0) (refusal-ends number touches)
 
@@ -136,7 +133,7 @@ module _ (ids shared sizes : List ℕ) where
 -- the answer to a query line, as its rows stand in the columns; a line that is no query is refused with 11
 module _ (w : List ℕ) where
   asked : List ℕ → List (List ℕ)
-  asked line = answerLines (searchFor w line) (idColumn w (placesFor w line)) (sharedColumn w (featuresOf (queryIn line)) (placesFor w line)) (sizeColumn w (placesFor w line))
+  asked line = answerLines (searchFor w line) (columnsFor w line)
 
   stray : List (List ℕ)
   stray = refusalLine 11 0 ∷ []
@@ -145,13 +142,13 @@ module _ (w : List ℕ) where
   linesFor line = cond (isFrame queryFrame line) (asked line) stray
 
   by-frame : (P : List ℕ → List (List ℕ) → Type 0) (line : List ℕ)
-      → P (answerText (searchFor w line) (idColumn w (placesFor w line)) (sharedColumn w (featuresOf (queryIn line)) (placesFor w line)) (sizeColumn w (placesFor w line))) (asked line)
+      → P (answerText (searchFor w line) (columnsFor w line)) (asked line)
       → P (refusalLine 11 0) stray → P (answerOf w line) (linesFor line)
   unfolding answerOf linesFor
   by-frame P line f g = cases (isFrame queryFrame line)
     where
       cases : (b : Bool)
-          → P (cond b (answerText (searchFor w line) (idColumn w (placesFor w line)) (sharedColumn w (featuresOf (queryIn line)) (placesFor w line)) (sizeColumn w (placesFor w line))) (refusalLine 11 0))
+          → P (cond b (answerText (searchFor w line) (columnsFor w line)) (refusalLine 11 0))
           (cond b (asked line) stray)
       cases true = f
       cases false = g
@@ -160,21 +157,21 @@ module _ (w : List ℕ) where
   unfolding asked stray
   for-joined line =
       by-frame (λ (t : List ℕ) (ls : List (List ℕ)). t ≡ joined ls) line
-      (answer-joined _ _ _ (searchFor w line))
+      (answer-joined _ (searchFor w line))
       (unfold joined in sym (append-nil (refusalLine 11 0)))
 
   for-ended : (line : List ℕ) → Ended endsAnswer (linesFor line)
   unfolding asked stray
   for-ended line =
       by-frame (λ (t : List ℕ) (ls : List (List ℕ)). Ended endsAnswer ls) line
-      (answer-ended (idColumn w (placesFor w line)) (sharedColumn w (featuresOf (queryIn line)) (placesFor w line)) (sizeColumn w (placesFor w line)) (searchFor w line))
+      (answer-ended (columnsFor w line) (searchFor w line))
       (refusal-ended 11 0)
 
   for-once : (line : List ℕ) → countOf endsAnswer (linesFor line) ≡ 1
   unfolding asked stray countOf
   for-once line =
       by-frame (λ (t : List ℕ) (ls : List (List ℕ)). countOf endsAnswer ls ≡ 1) line
-      (answer-once (idColumn w (placesFor w line)) (sharedColumn w (featuresOf (queryIn line)) (placesFor w line)) (sizeColumn w (placesFor w line)) (searchFor w line))
+      (answer-once (columnsFor w line) (searchFor w line))
       (ap (λ (b : Bool). cond b 1 0 + 0) (refusal-ends 11 0))
 
   -- the lines of a query line's answer are its linesFor
@@ -183,7 +180,7 @@ module _ (w : List ℕ) where
 
   -- of a 51 line: a 52 line for each row, in order, and the end; or one refusal
   pub lines-query : (line : List ℕ) → isFrame queryFrame line ≡ true → linesOf (answerOf w line)
-      ≡ answerLines (searchFor w line) (idColumn w (placesFor w line)) (sharedColumn w (featuresOf (queryIn line)) (placesFor w line)) (sizeColumn w (placesFor w line))
+      ≡ answerLines (searchFor w line) (columnsFor w line)
   unfolding linesFor asked
   lines-query line e = lines-for line ∙ ap (λ (b : Bool). cond b (asked line) stray) e
 

@@ -26,11 +26,11 @@ use Rattle.frames.specs.Frames.{queryFrame, rowFrame, endFrame, refusalFrame, r
 use Rattle.frames.proofs.Five.{read-write-row, read-write-end, read-write-refusal}
 use Rattle.lines.specs.Lines.{linesOf, joinLine, lineFeed}
 use Rattle.search.specs.Method.{touchesOf, answersOf}
-use Rattle.search.specs.Answers.{numberIn, rowsIn, idColumn, sharedColumn, sizeColumn}
+use Rattle.search.specs.Answers.{numberIn, rowsIn, Columns}
 use Rattle.search.specs.declared.Answer.{Answer}
 use Rattle.search.specs.declared.Answer.the-variants.{Found, Refused}
 use Rattle.search.proofs.Found.{refused-empty, Answered, answered}
-use Rattle.answers.specs.Output.{rowLine, endLine, refusalLine, rowsText, foundText, answerText, rowsLent, longestAnswer, queryIn, measureIn, pIn, qIn, allowanceIn, searchFor, placesFor, answerOf}
+use Rattle.answers.specs.Output.{endLine, refusalLine, rowText, answerText, rowsLent, longestAnswer, queryIn, measureIn, pIn, qIn, allowanceIn, searchFor, columnsFor, answerOf}
 use Rattle.answers.specs.Rows.{Shown}
 use Rattle.answers.proofs.Text.{length-found}
 use Rattle.lines.proofs.Cut.{NoFeed, Line}
@@ -70,9 +70,9 @@ one-line y f =
 
 -- ---- each line reads back
 
-pub reads-row : (ids shared sizes : List ℕ) (n : ℕ) → Shown ids shared sizes n → (k : ℕ) → k < n
-    → readOf rowFrame (rowLine (getD ids k 0) (getD shared k 0) (getD sizes k 0)) 0 ≡ rowOut (Row (getD ids k 0) (getD shared k 0) (getD sizes k 0))
-reads-row ids shared sizes n s k h = read-write-row (getD ids k 0) (getD shared k 0) (getD sizes k 0) (s .id k h) (s .share k h) (s .size k h)
+pub reads-row : (c : Columns) (n : ℕ) → Shown c n → (k : ℕ) → k < n
+    → readOf rowFrame (rowText c k) 0 ≡ rowOut (Row (getD (c .ids) k 0) (getD (c .shared) k 0) (getD (c .sizes) k 0))
+reads-row c n s k h = read-write-row (getD (c .ids) k 0) (getD (c .shared) k 0) (getD (c .sizes) k 0) (s .id k h) (s .share k h) (s .size k h)
 
 -- the end of an answered search, whose allowance fits 32 bits
 pub reads-end : (w line : List ℕ) → allowanceIn line < 4294967296 → numberIn (searchFor w line) ≡ 0
@@ -100,10 +100,10 @@ pub refusal-length : (number touches : ℕ) → length (refusalLine number touch
 unfolding lineOf hexLine hexOf fieldBytes nameBytes bytesFor
 refusal-length number touches = refl
 
-text-most : (r : Answer) (ids shared sizes : List ℕ) → rowsIn r ≤ rowsLent → length (answerText r ids shared sizes) ≤ longestAnswer
+text-most : (r : Answer) (c : Columns) → rowsIn r ≤ rowsLent → length (answerText r c) ≤ longestAnswer
 unfolding answerText
-text-most (Found rows touches p q) ids shared sizes h = let n = length-found rows touches p q ids shared sizes in omega arith
-text-most (Refused number touches) ids shared sizes h = let n = refusal-length number touches in omega arith
+text-most (Found rows touches p q) c h = let n = length-found rows touches p q c in omega arith
+text-most (Refused number touches) c h = let n = refusal-length number touches in omega arith
 
 pub answer-most : (w line : List ℕ) → length (answerOf w line) ≤ longestAnswer
 unfolding answerOf
@@ -120,6 +120,6 @@ answer-most w line = by-frame (isFrame queryFrame line)
         (λ (n : numberIn (searchFor w line) ≡ 0 → ⊥). let e = refused-empty (searchFor w line) n .0 in omega arith)
         (eq-or-ne (numberIn (searchFor w line)) 0)
 
-    by-frame : (b : Bool) → length (cond b (answerText (searchFor w line) (idColumn w (placesFor w line)) (sharedColumn w (featuresOf (queryIn line)) (placesFor w line)) (sizeColumn w (placesFor w line))) (refusalLine 11 0)) ≤ longestAnswer
-    by-frame true = text-most (searchFor w line) (idColumn w (placesFor w line)) (sharedColumn w (featuresOf (queryIn line)) (placesFor w line)) (sizeColumn w (placesFor w line)) few
+    by-frame : (b : Bool) → length (cond b (answerText (searchFor w line) (columnsFor w line)) (refusalLine 11 0)) ≤ longestAnswer
+    by-frame true = text-most (searchFor w line) (columnsFor w line) few
     by-frame false = let n = refusal-length 11 0 in omega arith

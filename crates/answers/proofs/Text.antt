@@ -17,7 +17,8 @@ use Rattle.layouts.specs.Layouts.{fieldBytes, nameBytes, lineOf, writtenOf, out
 use Rattle.layouts.specs.declared.Written.{Written}
 use Rattle.layouts.specs.declared.Layout.{Layout}
 use Rattle.frames.specs.Frames.{rowFrame, endFrame, refusalFrame}
-use Rattle.answers.specs.Output.{rowLine, endLine, refusalLine, rowsText, foundText, answerText, fittingOf, fittedOf}
+use Rattle.search.specs.Answers.{Columns}
+use Rattle.answers.specs.Output.{rowLine, endLine, refusalLine, rowText, rowsText, foundText, answerText, fittingOf, fittedOf}
 use Rattle.search.specs.declared.Answer.{Answer}
 use Rattle.search.specs.declared.Answer.the-variants.{Found, Refused}
 
@@ -31,13 +32,13 @@ pub length-end : (rows touches p q : ℕ) → length (endLine rows touches p q) 
 unfolding lineOf hexLine hexOf fieldBytes nameBytes bytesFor
 length-end rows touches p q = refl
 
-pub length-rows : (ids shared sizes : List ℕ) (n : ℕ) → length (rowsText ids shared sizes n) ≡ 11 * n
+pub length-rows : (c : Columns) (n : ℕ) → length (rowsText c n) ≡ 11 * n
 unfolding rowsText
-length-rows ids shared sizes zero = refl
-length-rows ids shared sizes (suc k) =
-    let a = length-append (rowsText ids shared sizes k) (rowLine (getD ids k 0) (getD shared k 0) (getD sizes k 0)) in
-    let b = length-row (getD ids k 0) (getD shared k 0) (getD sizes k 0) in
-    let c = length-rows ids shared sizes k in
+length-rows c zero = refl
+length-rows c (suc k) =
+    let a = length-append (rowsText c k) (rowText c k) in
+    let b = length-row (getD (c .ids) k 0) (getD (c .shared) k 0) (getD (c .sizes) k 0) in
+    let d = length-rows c k in
     omega arith
 
 -- ---- one line in its place
@@ -59,41 +60,41 @@ put-line at k xs part line e p =
 
 -- ---- the rows, one after the other
 
-pub rows-none : (ids shared sizes out : List ℕ) → out ≡ rowsText ids shared sizes 0 ++ drop (11 * 0) out
+pub rows-none : (c : Columns) (out : List ℕ) → out ≡ rowsText c 0 ++ drop (11 * 0) out
 unfolding rowsText
-rows-none ids shared sizes out = refl
+rows-none c out = refl
 
-pub rows-more : (ids shared sizes out : List ℕ) (k : ℕ) → 11 * k ≤ length out
-    → take (11 * k) (rowsText ids shared sizes k ++ drop (11 * k) out) ++ (rowLine (getD ids k 0) (getD shared k 0) (getD sizes k 0) ++ drop (11 * k + 11) (rowsText ids shared sizes k ++ drop (11 * k) out))
-    ≡ rowsText ids shared sizes (k + 1) ++ drop (11 * (k + 1)) out
-rows-more ids shared sizes out k h =
-    let t = rowsText ids shared sizes k in
-    let l = rowLine (getD ids k 0) (getD shared k 0) (getD sizes k 0) in
-    let n : length t ≡ 11 * k = length-rows ids shared sizes k in
+pub rows-more : (c : Columns) (out : List ℕ) (k : ℕ) → 11 * k ≤ length out
+    → take (11 * k) (rowsText c k ++ drop (11 * k) out) ++ (rowText c k ++ drop (11 * k + 11) (rowsText c k ++ drop (11 * k) out))
+    ≡ rowsText c (k + 1) ++ drop (11 * (k + 1)) out
+rows-more c out k h =
+    let t = rowsText c k in
+    let l = rowText c k in
+    let n : length t ≡ 11 * k = length-rows c k in
     let m : 11 * k + 11 ≡ 11 * (k + 1) = omega arith in
     ap₂ (λ (x y : List ℕ). x ++ (l ++ y)) (take-at t (drop (11 * k) out) (11 * k) n)
     (ap (λ (j : ℕ). drop (j + 11) (t ++ drop (11 * k) out)) (sym n) ∙ drop-append-add t (drop (11 * k) out) 11 ∙ drop-drop 11 (11 * k) out ∙ ap (λ (j : ℕ). drop j out) m)
     ∙ sym (append-assoc t l (drop (11 * (k + 1)) out))
     ∙ ap (λ (x : List ℕ). x ++ drop (11 * (k + 1)) out) (sym (rows-next k))
   where
-    rows-next : (k : ℕ) → rowsText ids shared sizes (k + 1) ≡ rowsText ids shared sizes k ++ rowLine (getD ids k 0) (getD shared k 0) (getD sizes k 0)
-    rows-next k = ap (rowsText ids shared sizes) (add-one k) ∙ unfold rowsText in refl
+    rows-next : (k : ℕ) → rowsText c (k + 1) ≡ rowsText c k ++ rowText c k
+    rows-next k = ap (rowsText c) (add-one k) ∙ unfold rowsText in refl
 
-pub rows-all : (ids shared sizes out : List ℕ) (n : ℕ) → length out ≡ 11 * n → rowsText ids shared sizes n ++ drop (11 * n) out ≡ rowsText ids shared sizes n
-rows-all ids shared sizes out n e =
-    ap (λ (t : List ℕ). rowsText ids shared sizes n ++ t) (drop-of-length-le out {i = 11 * n} (omega arith)) ∙ append-nil (rowsText ids shared sizes n)
+pub rows-all : (c : Columns) (out : List ℕ) (n : ℕ) → length out ≡ 11 * n → rowsText c n ++ drop (11 * n) out ≡ rowsText c n
+rows-all c out n e =
+    ap (λ (t : List ℕ). rowsText c n ++ t) (drop-of-length-le out {i = 11 * n} (omega arith)) ∙ append-nil (rowsText c n)
 
 -- ---- the rows and their end
 
 pub end-exact : (rows touches p q : ℕ) (out : List ℕ) → length out ≡ 23 → outOf endFrame (rows ∷ touches ∷ p ∷ q ∷ []) [] out ≡ endLine rows touches p q
 end-exact rows touches p q out e = out-exact endFrame (rows ∷ touches ∷ p ∷ q ∷ []) out (length-end rows touches p q ∙ sym e)
 
-pub length-found : (rows touches p q : ℕ) (ids shared sizes : List ℕ) → length (foundText rows touches p q ids shared sizes) ≡ 11 * rows + 23
+pub length-found : (rows touches p q : ℕ) (c : Columns) → length (foundText rows touches p q c) ≡ 11 * rows + 23
 unfolding foundText
-length-found rows touches p q ids shared sizes =
-    let a = length-append (rowsText ids shared sizes rows) (endLine rows touches p q) in
-    let b = length-rows ids shared sizes rows in
-    let c = length-end rows touches p q in
+length-found rows touches p q c =
+    let a = length-append (rowsText c rows) (endLine rows touches p q) in
+    let b = length-rows c rows in
+    let d = length-end rows touches p q in
     omega arith
 
 -- the end behind rows that fill the front
@@ -123,12 +124,12 @@ pub fitted-all : (text out : List ℕ) (n : ℕ) → length text ≡ n → n ≤
 unfolding fittedOf
 fitted-all text out n e h = rw (le-leb (length text) (length out) (omega arith)) (ap (λ (k : ℕ). text ++ drop k out) (sym e))
 
-pub fitted-found : (rows touches p q : ℕ) (ids shared sizes out : List ℕ) → 11 * rows + 23 ≤ length out
-    → (rowsText ids shared sizes rows ++ endLine rows touches p q) ++ drop (11 * rows + 23) out ≡ fittedOf (foundText rows touches p q ids shared sizes) out
-fitted-found rows touches p q ids shared sizes out h =
-    unfolded ∙ fitted-all (foundText rows touches p q ids shared sizes) out (11 * rows + 23) (length-found rows touches p q ids shared sizes) h
+pub fitted-found : (rows touches p q : ℕ) (c : Columns) (out : List ℕ) → 11 * rows + 23 ≤ length out
+    → (rowsText c rows ++ endLine rows touches p q) ++ drop (11 * rows + 23) out ≡ fittedOf (foundText rows touches p q c) out
+fitted-found rows touches p q c out h =
+    unfolded ∙ fitted-all (foundText rows touches p q c) out (11 * rows + 23) (length-found rows touches p q c) h
   where
-    unfolded : (rowsText ids shared sizes rows ++ endLine rows touches p q) ++ drop (11 * rows + 23) out ≡ foundText rows touches p q ids shared sizes ++ drop (11 * rows + 23) out
+    unfolded : (rowsText c rows ++ endLine rows touches p q) ++ drop (11 * rows + 23) out ≡ foundText rows touches p q c ++ drop (11 * rows + 23) out
     unfolded = unfold foundText in refl
 
 -- a refusal as its frame's writer leaves it
@@ -149,15 +150,15 @@ refusal-fitted number touches out = by-room (leb (length (refusalLine number tou
     by-room false = refl
 
 -- the text of an answer by its case
-pub text-found : (a : Answer) (rows touches p q : ℕ) (ids shared sizes : List ℕ) → a ≡ Found rows touches p q
-    → foundText rows touches p q ids shared sizes ≡ answerText a ids shared sizes
+pub text-found : (a : Answer) (rows touches p q : ℕ) (c : Columns) → a ≡ Found rows touches p q
+    → foundText rows touches p q c ≡ answerText a c
 unfolding answerText
-text-found a rows touches p q ids shared sizes e = sym (ap (λ (x : Answer). answerText x ids shared sizes) e)
+text-found a rows touches p q c e = sym (ap (λ (x : Answer). answerText x c) e)
 
-pub text-refused : (a : Answer) (number touches : ℕ) (ids shared sizes : List ℕ) → a ≡ Refused number touches
-    → refusalLine number touches ≡ answerText a ids shared sizes
+pub text-refused : (a : Answer) (number touches : ℕ) (c : Columns) → a ≡ Refused number touches
+    → refusalLine number touches ≡ answerText a c
 unfolding answerText
-text-refused a number touches ids shared sizes e = sym (ap (λ (x : Answer). answerText x ids shared sizes) e)
+text-refused a number touches c e = sym (ap (λ (x : Answer). answerText x c) e)
 
 -- ---- what was written lies within the buffer
 

@@ -13,8 +13,7 @@ use Rattle.frames.specs.Frames.{queryFrame, rowFrame, endFrame, refusalFrame}
 use Rattle.lines.specs.Lines.{linesOf, lineLength}
 use Rattle.postings.specs.Written.{blank}
 use Rattle.register.specs.Build.{builtOf, wordsAfter}
-use Rattle.search.specs.Method.{answersOf}
-use Rattle.search.specs.Answers.{searchOf, givenBy, idColumn, sharedColumn, sizeColumn}
+use Rattle.search.specs.Answers.{searchOf, Columns, columnsOf, placesGiven}
 use Rattle.search.specs.declared.Answer.{Answer}
 use Rattle.search.specs.declared.Answer.the-variants.{Found, Refused}
 use Rattle.answers.specs.declared.Opened.{Opened}
@@ -74,19 +73,23 @@ endLine rows touches p q = lineOf endFrame (rows ∷ touches ∷ p ∷ q ∷ [])
 abbrev pub refusalLine : ℕ → ℕ → List ℕ
 refusalLine number touches = lineOf refusalFrame (number ∷ touches ∷ []) []
 
--- the lines of the first n rows of three columns
-unfoldable pub rowsText : List ℕ → List ℕ → List ℕ → ℕ → List ℕ
-rowsText ids shared sizes zero = []
-rowsText ids shared sizes (suc k) = rowsText ids shared sizes k ++ rowLine (getD ids k 0) (getD shared k 0) (getD sizes k 0)
+-- the line of row k of some columns
+abbrev pub rowText : Columns → ℕ → List ℕ
+rowText c k = rowLine (getD (c .ids) k 0) (getD (c .shared) k 0) (getD (c .sizes) k 0)
+
+-- the lines of the first n rows
+unfoldable pub rowsText : Columns → ℕ → List ℕ
+rowsText c zero = []
+rowsText c (suc k) = rowsText c k ++ rowText c k
 
 -- the lines of rows that were found, and their end
-unfoldable pub foundText : ℕ → ℕ → ℕ → ℕ → List ℕ → List ℕ → List ℕ → List ℕ
-foundText rows touches p q ids shared sizes = rowsText ids shared sizes rows ++ endLine rows touches p q
+unfoldable pub foundText : ℕ → ℕ → ℕ → ℕ → Columns → List ℕ
+foundText rows touches p q c = rowsText c rows ++ endLine rows touches p q
 
--- the lines of an answer with its rows in three columns
-unfoldable pub answerText : Answer → List ℕ → List ℕ → List ℕ → List ℕ
-answerText (Found rows touches p q) ids shared sizes = foundText rows touches p q ids shared sizes
-answerText (Refused number touches) ids shared sizes = refusalLine number touches
+-- the lines of an answer with its rows in columns
+unfoldable pub answerText : Answer → Columns → List ℕ
+answerText (Found rows touches p q) c = foundText rows touches p q c
+answerText (Refused number touches) c = refusalLine number touches
 
 -- how many rows the program lends
 abbrev pub rowsLent : ℕ
@@ -118,14 +121,15 @@ searchFor w line = searchOf (queryIn line) (measureIn line) (pIn line) (qIn line
 
 -- the places of the names that it gives
 abbrev pub placesFor : List ℕ → List ℕ → List ℕ
-placesFor w line = givenBy (searchFor w line) (answersOf w (measureIn line) (pIn line) (qIn line) (featuresOf (queryIn line)))
+placesFor w line = placesGiven (queryIn line) (measureIn line) (pIn line) (qIn line) (allowanceIn line) w rowsLent
+
+-- and their rows
+abbrev pub columnsFor : List ℕ → List ℕ → Columns
+columnsFor w line = columnsOf w (featuresOf (queryIn line)) (placesFor w line)
 
 -- the lines that a query line is answered with; a line that is no 51 frame is refused with 11 and 0 touches
 unfoldable pub answerOf : List ℕ → List ℕ → List ℕ
-answerOf w line =
-    cond (isFrame queryFrame line)
-    (answerText (searchFor w line) (idColumn w (placesFor w line)) (sharedColumn w (featuresOf (queryIn line)) (placesFor w line)) (sizeColumn w (placesFor w line)))
-    (refusalLine 11 0)
+answerOf w line = cond (isFrame queryFrame line) (answerText (searchFor w line) (columnsFor w line)) (refusalLine 11 0)
 
 -- ---- lines into a lent buffer: all of them or, where they do not fit, none and 8
 
@@ -156,11 +160,10 @@ respondedOf w input at room =
 unfoldable pub endsAnswer : List ℕ → Bool
 endsAnswer l = isFrame endFrame l || isFrame refusalFrame l
 
--- the lines of an answer with its rows in three columns: a 52 line for each row, in order, and a 45 line; or one 58 line
-unfoldable pub answerLines : Answer → List ℕ → List ℕ → List ℕ → List (List ℕ)
-answerLines (Found rows touches p q) ids shared sizes =
-    tabulate (λ (k : ℕ). rowLine (getD ids k 0) (getD shared k 0) (getD sizes k 0)) rows ++ (endLine rows touches p q ∷ [])
-answerLines (Refused number touches) ids shared sizes = refusalLine number touches ∷ []
+-- the lines of an answer with its rows in columns: a 52 line for each row, in order, and a 45 line; or one 58 line
+unfoldable pub answerLines : Answer → Columns → List (List ℕ)
+answerLines (Found rows touches p q) c = tabulate (rowText c) rows ++ (endLine rows touches p q ∷ [])
+answerLines (Refused number touches) c = refusalLine number touches ∷ []
 
 -- ---- the whole program
 

@@ -6,9 +6,7 @@ ghost use mathlib.Core.List.{List, _++_};
 ghost use Prim.Native.Nat.{ℕ, _+_, _*_, _≤_, _<_};
 ghost use lib.ListN.{length, getD, take, drop};
 ghost use Rattle.index.specs.Good.{Good};
-ghost use Rattle.names.specs.Features.{featuresOf};
-ghost use Rattle.search.specs.Method.{answersOf};
-ghost use Rattle.search.specs.Answers.{rowsIn, searchOf, givenBy, roomOf, over, idColumn, sharedColumn, sizeColumn};
+ghost use Rattle.search.specs.Answers.{rowsIn, asColumns, Searched};
 ghost use Rattle.answers.specs.Output.{begins, registerEnd, openedOf, openWords, rowLine, rowsText, rowsLent, foundText, answerText, answerOf, fittingOf, fittedOf, lineText, respondedOf};
 ghost use Rattle.answers.specs.Rows.{Shown};
 use layouts::Written;
@@ -96,8 +94,8 @@ fn put_row(id: u32, shared: u32, size: u32, out: &mut [u8], k: usize)
 
 // Writes a 52 line for each of the first n rows.
 fn put_rows(ids: &[u32], shared: &[u32], sizes: &[u32], n: usize, out: &mut [u8])
-    requires { ⌜ Shown (now ids) (now shared) (now sizes) n × (length (now out) ≡ 11 * n) ⌝ }
-    ensures { λ _. ⌜ now (out .exit) ≡ rowsText (now (ids .entry)) (now (shared .entry)) (now (sizes .entry)) n ⌝ }
+    requires { ⌜ Shown (asColumns (now ids) (now shared) (now sizes)) n × (length (now out) ≡ 11 * n) ⌝ }
+    ensures { λ _. ⌜ now (out .exit) ≡ rowsText (asColumns (now (ids .entry)) (now (shared .entry)) (now (sizes .entry))) n ⌝ }
 {
     let mut k: usize = 0;
     while k < n {
@@ -117,8 +115,8 @@ fn put_found(
     sizes: &[u32],
     out: &mut [u8],
 ) -> Written
-    requires { ⌜ Shown (now ids) (now shared) (now sizes) rows ⌝ }
-    ensures { λ r. ⌜ (r ≡ fittingOf (foundText rows touches p q (now (ids .entry)) (now (shared .entry)) (now (sizes .entry))) (length (now (out .entry)))) × (now (out .exit) ≡ fittedOf (foundText rows touches p q (now (ids .entry)) (now (shared .entry)) (now (sizes .entry))) (now (out .entry))) ⌝ }
+    requires { ⌜ Shown (asColumns (now ids) (now shared) (now sizes)) rows ⌝ }
+    ensures { λ r. ⌜ (r ≡ fittingOf (foundText rows touches p q (asColumns (now (ids .entry)) (now (shared .entry)) (now (sizes .entry)))) (length (now (out .entry)))) × (now (out .exit) ≡ fittedOf (foundText rows touches p q (asColumns (now (ids .entry)) (now (shared .entry)) (now (sizes .entry)))) (now (out .entry))) ⌝ }
 {
     let n = rows as usize;
     let end = 11 * n;
@@ -136,8 +134,8 @@ fn put_found(
 
 // Writes the lines of an answer, where they fit.
 fn put_answer(answer: Answer, ids: &[u32], shared: &[u32], sizes: &[u32], out: &mut [u8]) -> Written
-    requires { ⌜ Shown (now ids) (now shared) (now sizes) (rowsIn answer) ⌝ }
-    ensures { λ r. ⌜ (r ≡ fittingOf (answerText answer (now (ids .entry)) (now (shared .entry)) (now (sizes .entry))) (length (now (out .entry)))) × (now (out .exit) ≡ fittedOf (answerText answer (now (ids .entry)) (now (shared .entry)) (now (sizes .entry))) (now (out .entry))) ⌝ }
+    requires { ⌜ Shown (asColumns (now ids) (now shared) (now sizes)) (rowsIn answer) ⌝ }
+    ensures { λ r. ⌜ (r ≡ fittingOf (answerText answer (asColumns (now (ids .entry)) (now (shared .entry)) (now (sizes .entry)))) (length (now (out .entry)))) × (now (out .exit) ≡ fittedOf (answerText answer (asColumns (now (ids .entry)) (now (shared .entry)) (now (sizes .entry)))) (now (out .entry))) ⌝ }
 {
     match answer {
         Answer::Found {
@@ -164,10 +162,7 @@ fn ask(
     sizes: &mut [u32],
 ) -> Answer
     requires { ⌜ (known ≡ true → Good (now words)) ⌝ }
-    ensures { λ r. ⌜ r ≡ searchOf (now (query .entry)) measure p q allowance (now (words .entry)) (roomOf (now (ids .entry)) (now (shared .entry)) (now (sizes .entry))) ⌝ }
-    ensures { λ r. ⌜ now (ids .exit) ≡ over (idColumn (now (words .entry)) (givenBy r (answersOf (now (words .entry)) measure p q (featuresOf (now (query .entry)))))) (now (ids .entry)) ⌝ }
-    ensures { λ r. ⌜ now (shared .exit) ≡ over (sharedColumn (now (words .entry)) (featuresOf (now (query .entry))) (givenBy r (answersOf (now (words .entry)) measure p q (featuresOf (now (query .entry)))))) (now (shared .entry)) ⌝ }
-    ensures { λ r. ⌜ now (sizes .exit) ≡ over (sizeColumn (now (words .entry)) (givenBy r (answersOf (now (words .entry)) measure p q (featuresOf (now (query .entry)))))) (now (sizes .entry)) ⌝ }
+    ensures { λ r. ⌜ Searched (now (query .entry)) measure p q allowance (now (words .entry)) (asColumns (now (ids .entry)) (now (shared .entry)) (now (sizes .entry))) (asColumns (now (ids .exit)) (now (shared .exit)) (now (sizes .exit))) r ⌝ }
 {
     if known {
         return search::search_good(query, measure, p, q, allowance, words, ids, shared, sizes);

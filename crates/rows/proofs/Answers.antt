@@ -21,7 +21,7 @@ use Rattle.words.specs.Words.{nameCount, nameId, nameSize}
 use Rattle.index.specs.Good.{mostNames, goodOf}
 use Rattle.index.proofs.Laws.{good-names-most}
 use Rattle.search.specs.Method.{sharedWith, touchesOf, listed, answersBelow, answersOf}
-use Rattle.search.specs.Answers.{rowsIn, refusalOf, searchGoodOf, searchOf, givenBy, roomOf, over, idColumn, sharedColumn, sizeColumn}
+use Rattle.search.specs.Answers.{rowsIn, refusalOf, searchGoodOf, searchOf, givenBy, Columns, roomOf, columnsOf, columnsOver, placesGiven, Searched}
 use Rattle.search.proofs.Found.{asked}
 use Rattle.search.specs.declared.Answer.{Answer}
 use Rattle.search.specs.declared.Answer.the-variants.{Found, Refused}
@@ -121,6 +121,10 @@ getD-map f [] k d e h = absurd (omega arith)
 getD-map f (x ∷ l) zero d e h = refl
 getD-map f (x ∷ l) (suc k) d e h = getD-map f l k d e (omega arith)
 
+-- columns with what stands after them
+abbrev pub columnsThen : Columns → Columns → Columns
+columnsThen c x = record { ids = c .ids ++ x .ids; shared = c .shared ++ x .shared; sizes = c .sizes ++ x .sizes }
+
 -- an entry of a column that starts with the places' values
 column-entry : (f : ℕ → ℕ) (places l rest : List ℕ) (k : ℕ) → k < length places → getD ((map f places ++ l) ++ rest) k 0 ≡ f (getD places k 0)
 column-entry f places l rest k h =
@@ -130,28 +134,20 @@ column-entry f places l rest k h =
     ∙ List·getD-append (map f places) l 0 k (let b : k < length (map f places) = omega arith in b)
     ∙ getD-map f places k 0 0 h
 
--- three columns that start with the places' ids, shared counts and sizes have the places' rows
-pub rows-columns : (w query places a b c x y z : List ℕ)
-    → rowsFrom (length places) ((map (nameId w) places ++ a) ++ x) ((map (sharedWith w query) places ++ b) ++ y) ((map (nameSize w) places ++ c) ++ z)
-    ≡ rowsOf w query places
-rows-columns w query places a b c x y z =
-    sym (tabulate-of (rowAt ids shared sizes) (length places) noRow (rowsOf w query places) (length-map places (rowOf w query))
+-- columns that start with the places' rows have those rows
+pub columns-rows : (w query places : List ℕ) (c x : Columns) → rowsFrom (length places) (columnsThen (columnsOver (columnsOf w query places) c) x) ≡ rowsOf w query places
+columns-rows w query places c x =
+    sym (tabulate-of (rowAt filled) (length places) noRow (rowsOf w query places) (length-map places (rowOf w query))
     (λ k h. getD-map (rowOf w query) places k 0 noRow h ∙ sym (same k h)))
   where
-    ids : List ℕ
-    ids = (map (nameId w) places ++ a) ++ x
+    filled : Columns
+    filled = columnsThen (columnsOver (columnsOf w query places) c) x
 
-    shared : List ℕ
-    shared = (map (sharedWith w query) places ++ b) ++ y
-
-    sizes : List ℕ
-    sizes = (map (nameSize w) places ++ c) ++ z
-
-    same : (k : ℕ) → k < length places → rowAt ids shared sizes k ≡ rowOf w query (getD places k 0)
+    same : (k : ℕ) → k < length places → rowAt filled k ≡ rowOf w query (getD places k 0)
     same k h = λ t. record {
-      id = column-entry (nameId w) places a x k h t;
-      shared = column-entry (sharedWith w query) places b y k h t;
-      size = column-entry (nameSize w) places c z k h t;
+      id = column-entry (nameId w) places (drop (length (map (nameId w) places)) (c .ids)) (x .ids) k h t;
+      shared = column-entry (sharedWith w query) places (drop (length (map (sharedWith w query) places)) (c .shared)) (x .shared) k h t;
+      size = column-entry (nameSize w) places (drop (length (map (nameSize w) places)) (c .sizes)) (x .sizes) k h t;
     }
 
 -- ---- what `fill_columns` leaves
@@ -163,35 +159,33 @@ length-cut n room most l e f = let h = min-le-right room most in length-take-le 
 pub cut-counted : (n room most : ℕ) (l : List ℕ) → n ≡ min room most → most ≤ length l → n ≡ length (take n l)
 cut-counted n room most l e f = sym (length-cut n room most l e f)
 
-room-three : (a b c : List ℕ) (n : ℕ) → length a ≡ n → length b ≡ n → length c ≡ n → roomOf a b c ≡ n
-room-three a b c n e f g =
+room-cut : (c : Columns) (n : ℕ) → length (c .ids) ≡ n → length (c .shared) ≡ n → length (c .sizes) ≡ n → roomOf c ≡ n
+room-cut c n e f g =
     let h : n ≤ n = omega arith in
     (λ t. min (e t) (min (f t) (g t))) ∙ ap (λ (k : ℕ). min n k) (min-eq-left h) ∙ min-eq-left h
 
--- a search of columns that are cut at the room, with whatever stands behind the cuts
-pub filled : (s : List ℕ) (m p q allowance : ℕ) (w : List ℕ) (room n : ℕ) (r : Answer) (i j k a b c x y z : List ℕ)
-    → n ≡ min room mostNames
-    → r ≡ searchOf s m p q allowance w (roomOf a b c)
-    → i ≡ over (idColumn w (givenBy r (answersOf w m p q (featuresOf s)))) a
-    → j ≡ over (sharedColumn w (featuresOf s) (givenBy r (answersOf w m p q (featuresOf s)))) b
-    → k ≡ over (sizeColumn w (givenBy r (answersOf w m p q (featuresOf s)))) c
-    → length a ≡ n → length b ≡ n → length c ≡ n
-    → Filled s m p q allowance w room r (i ++ x) (j ++ y) (k ++ z)
-filled s m p q allowance w room n r i j k a b c x y z cut e ei ej ek la lb lc = record {
+-- a search of columns that are cut at the room, with whatever stands after the cuts
+pub filled : (s : List ℕ) (m p q allowance : ℕ) (w : List ℕ) (room n : ℕ) (r : Answer) (before after rest : Columns) → n ≡ min room mostNames
+    → Searched s m p q allowance w before after r → length (before .ids) ≡ n → length (before .shared) ≡ n → length (before .sizes) ≡ n
+    → Filled s m p q allowance w room r (columnsThen after rest)
+filled s m p q allowance w room n r before after rest cut e li lh lz = record {
   answer = right;
   rows =
-      ap (λ (l : ℕ). rowsFrom l (i ++ x) (j ++ y) (k ++ z)) (comes .0)
-      ∙ (λ t. rowsFrom (length given) (ei t ++ x) (ej t ++ y) (ek t ++ z))
-      ∙ rows-columns w (featuresOf s) given (drop (length (idColumn w given)) a) (drop (length (sharedColumn w (featuresOf s) given)) b) (drop (length (sizeColumn w given)) c) x y z;
+      (λ t. rowsFrom (counted t) (columnsThen (e .columns t) rest))
+      ∙ columns-rows w (featuresOf s) (placesGiven s m p q allowance w (roomOf before)) before rest
+      ∙ ap (λ (x : Answer). rowsOf w (featuresOf s) (givenBy x (answersOf w m p q (featuresOf s)))) same;
   few = comes .2;
   within = comes .1;
 }
   where
-    given : List ℕ
-    given = givenBy r (answersOf w m p q (featuresOf s))
+    same : searchOf s m p q allowance w (roomOf before) ≡ searchOf s m p q allowance w room
+    same = ap (searchOf s m p q allowance w) (room-cut before n li lh lz ∙ cut) ∙ room-enough s m p q allowance w room
 
     right : r ≡ searchOf s m p q allowance w room
-    right = e ∙ ap (λ (l : ℕ). searchOf s m p q allowance w l) (room-three a b c n la lb lc ∙ cut) ∙ room-enough s m p q allowance w room
+    right = e .answer ∙ same
 
     comes : Outcome s m p q allowance w room r
     comes = subst (Outcome s m p q allowance w room) (sym right) (outcome s m p q allowance w room)
+
+    counted : rowsIn r ≡ length (placesGiven s m p q allowance w (roomOf before))
+    counted = comes .0 ∙ ap (λ (x : Answer). length (givenBy x (answersOf w m p q (featuresOf s)))) (e .answer)

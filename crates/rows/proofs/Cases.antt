@@ -5,6 +5,7 @@ use mathlib.Core.List.{List, [], _∷_}
 use Prim.Native.Nat.{ℕ}
 use Rattle.laws.specs.Lists.{tabulate}
 use Rattle.rows.specs.declared.Row.{Row}
+use Rattle.search.specs.Answers.{asColumns}
 use Rattle.rows.specs.Rows.{overRows, rowsFrom}
 
 row : ℕ → ℕ → ℕ → Row
@@ -21,6 +22,6 @@ behind-kept = refl
 none-given : overRows [] stood ≡ stood
 none-given = refl
 
-columns : rowsFrom 2 (10 ∷ 11 ∷ 0 ∷ []) (6 ∷ 4 ∷ 0 ∷ []) (6 ∷ 7 ∷ 0 ∷ []) ≡ row 10 6 6 ∷ row 11 4 7 ∷ []
+columns : rowsFrom 2 (asColumns (10 ∷ 11 ∷ 0 ∷ []) (6 ∷ 4 ∷ 0 ∷ []) (6 ∷ 7 ∷ 0 ∷ [])) ≡ row 10 6 6 ∷ row 11 4 7 ∷ []
 unfolding row tabulate
 columns = refl

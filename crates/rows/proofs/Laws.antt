@@ -6,10 +6,13 @@ use Prim.Native.Nat.{ℕ, zero, suc, _+_, _-_, _≤_, _<_}
 use native.Mathlib.Omega.{arith}
 use lib.ListN.{length, getD, drop, length-append, length-drop, length-map, List·getD-append}
 use lib.Seq.{getD-drop, getD-append-add}
-use Rattle.search.specs.Answers.{givenBy, over, idColumn, sharedColumn, sizeColumn}
-use Rattle.search.specs.declared.Answer.the-variants.{Refused}
+use Rattle.names.specs.Features.{featuresOf}
+use Rattle.words.specs.Words.{nameId, nameSize}
+use Rattle.search.specs.Method.{sharedWith, answersOf}
+use Rattle.search.specs.Answers.{numberIn, searchOf, Columns, columnsOf, over, columnsOver}
+use Rattle.search.proofs.Found.{refused-gives}
 use Rattle.rows.specs.declared.Row.{Row}
-use Rattle.rows.specs.Rows.{rowOf, rowsOf, overRows}
+use Rattle.rows.specs.Rows.{rowOf, rowsOf, overRows, rowsAfter, columnsIn}
 
 -- the list is as long as it was
 pub length-over-rows : (given l : List Row) → length given ≤ length l → length (overRows given l) ≡ length l
@@ -32,23 +35,22 @@ row-kept given l k d h =
     ∙ ap (λ (i : ℕ). getD l i d) e
 
 -- a refusal writes no row
-pub rows-refused : (w query places : List ℕ) (number touches : ℕ) (l : List Row) → overRows (rowsOf w query (givenBy (Refused number touches) places)) l ≡ l
-unfolding givenBy
-rows-refused w query places number touches l = refl
+pub rows-refused : (query : List ℕ) (m p q allowance : ℕ) (w : List ℕ) (l : List Row) → (numberIn (searchOf query m p q allowance w (length l)) ≡ 0 → ⊥)
+    → rowsAfter query m p q allowance w l ≡ l
+rows-refused query m p q allowance w l n =
+    ap (λ (places : List ℕ). overRows (rowsOf w (featuresOf query) places) l) (refused-gives (searchOf query m p q allowance w (length l)) (answersOf w m p q (featuresOf query)) n)
 
--- the rows' fields are the columns
+-- the records' fields are the columns
 fields : (f : Row → ℕ) (g : ℕ → ℕ) (w query : List ℕ) → ((i : ℕ) → f (rowOf w query i) ≡ g i) → (places : List ℕ) → map f (rowsOf w query places) ≡ map g places
 fields f g w query e [] = refl
 fields f g w query e (i ∷ places) = λ t. e i t ∷ fields f g w query e places t
 
-pub rows-ids : (w query places : List ℕ) → map (λ (r : Row). r .id) (rowsOf w query places) ≡ idColumn w places
-rows-ids w query places = fields _ _ w query (λ i. refl) places
-
-pub rows-shared : (w query places : List ℕ) → map (λ (r : Row). r .shared) (rowsOf w query places) ≡ sharedColumn w query places
-rows-shared w query places = fields _ _ w query (λ i. refl) places
-
-pub rows-sizes : (w query places : List ℕ) → map (λ (r : Row). r .size) (rowsOf w query places) ≡ sizeColumn w places
-rows-sizes w query places = fields _ _ w query (λ i. refl) places
+pub rows-columns : (w query places : List ℕ) → columnsIn (rowsOf w query places) ≡ columnsOf w query places
+rows-columns w query places = λ t. record {
+  ids = fields (λ r. r .id) (nameId w) w query (λ i. refl) places t;
+  shared = fields (λ r. r .shared) (sharedWith w query) w query (λ i. refl) places t;
+  sizes = fields (λ r. r .size) (nameSize w) w query (λ i. refl) places t;
+}
 
 -- ---- the rows over a lent list
 
@@ -57,21 +59,18 @@ map-drop f zero l = refl
 map-drop f (suc n) [] = refl
 map-drop f (suc n) (r ∷ l) = map-drop f n l
 
--- the fields of the list afterwards are the column over the fields that it had
-over-fields : (f : Row → ℕ) (given l : List Row) (c : List ℕ) → map f given ≡ c → map f (overRows given l) ≡ over c (map f l)
-over-fields f given l c e =
+-- the fields of the list afterwards are those given over the fields that it had
+over-fields : (f : Row → ℕ) (given l : List Row) → map f (overRows given l) ≡ over (map f given) (map f l)
+over-fields f given l =
     map-append f given (drop (length given) l)
     ∙ ap (λ (t : List ℕ). map f given ++ t) (map-drop f (length given) l ∙ ap (λ (n : ℕ). drop n (map f l)) (sym (length-map given f)))
-    ∙ ap (λ (d : List ℕ). over d (map f l)) e
 
-pub over-ids : (w query places : List ℕ) (l : List Row)
-    → map (λ (r : Row). r .id) (overRows (rowsOf w query places) l) ≡ over (idColumn w places) (map (λ (r : Row). r .id) l)
-over-ids w query places l = over-fields _ (rowsOf w query places) l (idColumn w places) (rows-ids w query places)
-
-pub over-shared : (w query places : List ℕ) (l : List Row)
-    → map (λ (r : Row). r .shared) (overRows (rowsOf w query places) l) ≡ over (sharedColumn w query places) (map (λ (r : Row). r .shared) l)
-over-shared w query places l = over-fields _ (rowsOf w query places) l (sharedColumn w query places) (rows-shared w query places)
-
-pub over-sizes : (w query places : List ℕ) (l : List Row)
-    → map (λ (r : Row). r .size) (overRows (rowsOf w query places) l) ≡ over (sizeColumn w places) (map (λ (r : Row). r .size) l)
-over-sizes w query places l = over-fields _ (rowsOf w query places) l (sizeColumn w places) (rows-sizes w query places)
+pub over-columns : (w query places : List ℕ) (l : List Row)
+    → columnsIn (overRows (rowsOf w query places) l) ≡ columnsOver (columnsOf w query places) (columnsIn l)
+over-columns w query places l =
+    (λ t. record {
+      ids = over-fields (λ r. r .id) (rowsOf w query places) l t;
+      shared = over-fields (λ r. r .shared) (rowsOf w query places) l t;
+      sizes = over-fields (λ r. r .size) (rowsOf w query places) l t;
+    })
+    ∙ ap (λ (c : Columns). columnsOver c (columnsIn l)) (rows-columns w query places)

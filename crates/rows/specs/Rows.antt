@@ -8,8 +8,8 @@ use Rattle.laws.specs.Lists.{tabulate}
 use Rattle.names.specs.Features.{featuresOf}
 use Rattle.words.specs.Words.{nameId, nameSize}
 use Rattle.index.specs.Good.{mostNames}
-use Rattle.search.specs.Method.{sharedWith, answersOf}
-use Rattle.search.specs.Answers.{rowsIn, searchOf, givenBy}
+use Rattle.search.specs.Method.{sharedWith}
+use Rattle.search.specs.Answers.{rowsIn, searchOf, Columns, placesGiven}
 use Rattle.search.specs.declared.Answer.{Answer}
 use Rattle.rows.specs.declared.Row.{Row}
 
@@ -23,23 +23,31 @@ rowOf w query i = record { id = nameId w i; shared = sharedWith w query i; size 
 abbrev pub rowsOf : List ℕ → List ℕ → List ℕ → List Row
 rowsOf w query places = map (rowOf w query) places
 
--- a lent list of rows afterwards: what is given, and behind it what stood there
+-- a lent list of rows afterwards: what is given, and after it what stood there
 abbrev pub overRows : List Row → List Row → List Row
 overRows l s = l ++ drop (length l) s
 
--- ---- rows as the columns hold them
+-- what a search leaves in a list that is lent to it
+abbrev pub rowsAfter : List ℕ → ℕ → ℕ → ℕ → ℕ → List ℕ → List Row → List Row
+rowsAfter query m p q allowance w rows = overRows (rowsOf w (featuresOf query) (placesGiven query m p q allowance w (length rows))) rows
 
--- row k of the three columns; past the end of a column its field is 0
-abbrev pub rowAt : List ℕ → List ℕ → List ℕ → ℕ → Row
-rowAt ids shared sizes k = record { id = getD ids k 0; shared = getD shared k 0; size = getD sizes k 0 }
+-- ---- records and columns
 
--- the first n rows of the three columns
-abbrev pub rowsFrom : ℕ → List ℕ → List ℕ → List ℕ → List Row
-rowsFrom n ids shared sizes = tabulate (rowAt ids shared sizes) n
+-- records as columns
+abbrev pub columnsIn : List Row → Columns
+columnsIn l = record { ids = map (λ (r : Row). r .id) l; shared = map (λ (r : Row). r .shared) l; sizes = map (λ (r : Row). r .size) l }
+
+-- row k of the columns; past the end of a column its field is 0
+abbrev pub rowAt : Columns → ℕ → Row
+rowAt c k = record { id = getD (c .ids) k 0; shared = getD (c .shared) k 0; size = getD (c .sizes) k 0 }
+
+-- the first n rows of the columns
+abbrev pub rowsFrom : ℕ → Columns → List Row
+rowsFrom n c = tabulate (rowAt c) n
 
 -- the columns after a search with that room: its answer, and the columns' first rows, as many as it gives, are the given ones
-pub record Filled (query : List ℕ) (m p q allowance : ℕ) (w : List ℕ) (room : ℕ) (r : Answer) (ids shared sizes : List ℕ) : Type 0 where
+pub record Filled (query : List ℕ) (m p q allowance : ℕ) (w : List ℕ) (room : ℕ) (r : Answer) (c : Columns) : Type 0 where
   pub answer : r ≡ searchOf query m p q allowance w room
-  pub rows : rowsFrom (rowsIn r) ids shared sizes ≡ rowsOf w (featuresOf query) (givenBy r (answersOf w m p q (featuresOf query)))
+  pub rows : rowsFrom (rowsIn r) c ≡ rowsOf w (featuresOf query) (placesGiven query m p q allowance w room)
   pub few : rowsIn r ≤ mostNames
   pub within : rowsIn r ≤ room

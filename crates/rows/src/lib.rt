@@ -4,11 +4,9 @@ ghost use mathlib.Core.Path.{_≡_};
 ghost use mathlib.Core.List.{_++_};
 ghost use Prim.Native.Nat.{_≤_, min};
 ghost use lib.ListN.{length, drop};
-ghost use Rattle.names.specs.Features.{featuresOf};
 ghost use Rattle.index.specs.Good.{mostNames};
-ghost use Rattle.search.specs.Method.{answersOf};
-ghost use Rattle.search.specs.Answers.{searchOf, givenBy, rowsIn};
-ghost use Rattle.rows.specs.Rows.{rowsFrom, rowsOf, overRows, Filled};
+ghost use Rattle.search.specs.Answers.{searchOf, rowsIn, asColumns};
+ghost use Rattle.rows.specs.Rows.{rowsFrom, rowsAfter, Filled};
 use search::Answer;
 
 // An answer row: a name's id, how many of the query's features it has, and its size. Laid out as C has it, for the crate `surface`.
@@ -57,7 +55,7 @@ fn fill_columns(
     sizes: &mut [u32],
 ) -> Answer
     requires { ⌜ (length (now ids) ≡ mostNames) × (length (now shared) ≡ mostNames) × (length (now sizes) ≡ mostNames) ⌝ }
-    ensures { λ r. ⌜ Filled (now (query .entry)) measure p q allowance (now (words .entry)) room r (now (ids .exit)) (now (shared .exit)) (now (sizes .exit)) ⌝ }
+    ensures { λ r. ⌜ Filled (now (query .entry)) measure p q allowance (now (words .entry)) room r (asColumns (now (ids .exit)) (now (shared .exit)) (now (sizes .exit))) ⌝ }
 {
     let n = smaller(room, index::MOST_NAMES);
     search::search(
@@ -76,7 +74,7 @@ fn fill_columns(
 // Writes the first n rows of the columns as records.
 fn put_rows(ids: &[u32], shared: &[u32], sizes: &[u32], n: usize, rows: &mut [Row])
     requires { ⌜ (n ≤ length (now ids)) × ((n ≤ length (now shared)) × ((n ≤ length (now sizes)) × (n ≤ length (now rows)))) ⌝ }
-    ensures { λ _. ⌜ now (rows .exit) ≡ rowsFrom n (now (ids .entry)) (now (shared .entry)) (now (sizes .entry)) ++ drop n (now (rows .entry)) ⌝ }
+    ensures { λ _. ⌜ now (rows .exit) ≡ rowsFrom n (asColumns (now (ids .entry)) (now (shared .entry)) (now (sizes .entry))) ++ drop n (now (rows .entry)) ⌝ }
 {
     let mut k = 0;
     while k < n {
@@ -99,7 +97,7 @@ pub fn search_rows(
     words: &[u32],
     rows: &mut [Row],
 ) -> Answer
-    ensures { λ r. ⌜ (r ≡ searchOf (now (query .entry)) measure p q allowance (now (words .entry)) (length (now (rows .entry)))) × (now (rows .exit) ≡ overRows (rowsOf (now (words .entry)) (featuresOf (now (query .entry))) (givenBy r (answersOf (now (words .entry)) measure p q (featuresOf (now (query .entry)))))) (now (rows .entry))) ⌝ }
+    ensures { λ r. ⌜ (r ≡ searchOf (now (query .entry)) measure p q allowance (now (words .entry)) (length (now (rows .entry)))) × (now (rows .exit) ≡ rowsAfter (now (query .entry)) measure p q allowance (now (words .entry)) (now (rows .entry))) ⌝ }
 {
     let mut ids = [0u32; index::MOST_NAMES];
     let mut shared = [0u32; index::MOST_NAMES];

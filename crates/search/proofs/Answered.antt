@@ -19,7 +19,7 @@ use Rattle.words.specs.Words.{nameCount, namesStart}
 use Rattle.index.specs.Good.{goodOf}
 use Rattle.search.specs.Method.{touchesOf, answersOf}
 use Rattle.search.specs.Tables.{nameWords}
-use Rattle.search.specs.Answers.{questionCases, questionOf, refusalOf, searchGoodOf, searchOf}
+use Rattle.search.specs.Answers.{questionCases, questionOf, refusalOf, searchGoodOf, searchOf, givenBy, Columns, roomOf, columnsOf, columnsOver, Searched}
 use Rattle.search.specs.declared.Answer.{Answer}
 use Rattle.search.specs.declared.Answer.the-variants.{Found, Refused}
 
@@ -52,6 +52,16 @@ module _ (s : List ℕ) (m p q allowance : ℕ) (w : List ℕ) (room : ℕ) wher
   pub search-runs : refusalOf s m p q w ≡ 0 → searchOf s m p q allowance w room ≡ searchGoodOf s m p q allowance w room
   unfolding searchOf
   search-runs e = rw e
+
+-- a refusal keeps the columns
+pub searched-refused : (s : List ℕ) (m p q allowance : ℕ) (w : List ℕ) (c : Columns) (number touches : ℕ)
+    → searchOf s m p q allowance w (roomOf c) ≡ Refused number touches → Searched s m p q allowance w c c (Refused number touches)
+unfolding givenBy
+searched-refused s m p q allowance w c number touches e =
+    record {
+      answer = sym e;
+      columns = ap (λ (r : Answer). columnsOver (columnsOf w (featuresOf s) (givenBy r (answersOf w m p q (featuresOf s)))) c) (sym e);
+    }
 
 -- ---- the order of refusals
 
@@ -122,3 +132,10 @@ module _ (s : List ℕ) (m p q : ℕ) (w : List ℕ) where
     where
       none : firstCase [] ≡ 0
       none = unfold firstCase in refl
+
+-- a search of a question that is refused
+pub searched-question : (s : List ℕ) (m p q allowance : ℕ) (w : List ℕ) (c : Columns) (n : ℕ) → n ≡ questionOf s m p q → (n ≡ 0 → ⊥)
+    → Searched s m p q allowance w c c (Refused n 0)
+searched-question s m p q allowance w c n e z =
+    searched-refused s m p q allowance w c n 0
+    (search-refused s m p q allowance w (roomOf c) n (refusal-question s m p q w (λ (o : questionOf s m p q ≡ 0). z (e ∙ o)) ∙ sym e) z)

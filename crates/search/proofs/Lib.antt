@@ -8,6 +8,7 @@ pub mod Answering
 pub mod Rows
 pub mod Whole
 pub mod Answered
+pub mod Running
 pub mod Listed
 pub mod Found
 pub mod Total

@@ -1,5 +1,6 @@
 -- What a search answers: the order of refusals, the rows, and the number and values of each case.
 -- Assumes nothing.
+use mathlib.Core.Path.{_≡_}
 use mathlib.Core.Bool.{Bool, cond, not}
 use mathlib.Core.List.{List, [], _∷_, _++_, map}
 use Prim.Native.Nat.{ℕ, min}
@@ -73,27 +74,51 @@ module _ (query : List ℕ) (m p q allowance : ℕ) (w : List ℕ) (room : ℕ) 
   unfoldable pub searchOf : Answer
   searchOf = cond (eqb (refusalOf query m p q w) 0) searchGoodOf (Refused (refusalOf query m p q w) 0)
 
--- ---- the rows
+-- ---- the names that are given
 
 -- the places of the names that an answer gives: all answers where it is answered, none where it is refused
 unfoldable pub givenBy : Answer → List ℕ → List ℕ
 givenBy (Found rows touches p q) places = places
 givenBy (Refused number touches) places = []
 
--- the room lent: the least of the three columns' lengths
-abbrev pub roomOf : List ℕ → List ℕ → List ℕ → ℕ
-roomOf ids shared sizes = min (length ids) (min (length shared) (length sizes))
+-- ---- the columns
 
--- a lent column afterwards: what is given, and behind it what stood there
+-- rows as columns: row k is place k of each
+pub record Columns : Type 0 where
+  pub ids : List ℕ
+  pub shared : List ℕ
+  pub sizes : List ℕ
+
+abbrev pub asColumns : List ℕ → List ℕ → List ℕ → Columns
+asColumns ids shared sizes = record { ids = ids; shared = shared; sizes = sizes }
+
+-- there is room for as many rows as the shortest has
+abbrev pub roomOf : Columns → ℕ
+roomOf c = min (length (c .ids)) (min (length (c .shared)) (length (c .sizes)))
+
+-- the rows of the names at some places: of the words, the query's features and the places among the names
+abbrev pub columnsOf : List ℕ → List ℕ → List ℕ → Columns
+columnsOf w query places = record { ids = map (nameId w) places; shared = map (sharedWith w query) places; sizes = map (nameSize w) places }
+
+-- a lent column afterwards: what is given, and after it what stood there
 abbrev pub over : List ℕ → List ℕ → List ℕ
 over l s = l ++ drop (length l) s
 
--- the three columns of the given rows
-abbrev pub idColumn : List ℕ → List ℕ → List ℕ
-idColumn w places = map (nameId w) places
+abbrev pub columnsOver : Columns → Columns → Columns
+columnsOver given c = record { ids = over (given .ids) (c .ids); shared = over (given .shared) (c .shared); sizes = over (given .sizes) (c .sizes) }
 
-abbrev pub sharedColumn : List ℕ → List ℕ → List ℕ → List ℕ
-sharedColumn w query places = map (sharedWith w query) places
+-- ---- a search of any words, whole
 
-abbrev pub sizeColumn : List ℕ → List ℕ → List ℕ
-sizeColumn w places = map (nameSize w) places
+module _ (query : List ℕ) (m p q allowance : ℕ) (w : List ℕ) where
+  -- the places of the names that it gives
+  abbrev pub placesGiven : ℕ → List ℕ
+  placesGiven room = givenBy (searchOf query m p q allowance w room) (answersOf w m p q (featuresOf query))
+
+  -- what it leaves in columns that are lent to it
+  abbrev pub columnsAfter : Columns → Columns
+  columnsAfter c = columnsOver (columnsOf w (featuresOf query) (placesGiven (roomOf c))) c
+
+  -- what it answers, and what it leaves
+  pub record Searched (before after : Columns) (r : Answer) : Type 0 where
+    pub answer : r ≡ searchOf query m p q allowance w (roomOf before)
+    pub columns : after ≡ columnsAfter before

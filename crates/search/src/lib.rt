@@ -12,9 +12,9 @@ ghost use Rattle.names.specs.Names.{judgeOf};
 ghost use Rattle.names.specs.Features.{mostFeatures, featuresOf};
 ghost use Rattle.index.specs.Good.{Good, mostNames};
 ghost use Rattle.candidates.specs.Tables.{idAt};
-ghost use Rattle.search.specs.Method.{sizesEnd, answersOf};
+ghost use Rattle.search.specs.Method.{sizesEnd};
 ghost use Rattle.search.specs.Tables.{presentAt, startOf, smallKey, filledOf, nameWords, Asked, Sized, answersTable, Stepped, Covered, placesIn};
-ghost use Rattle.search.specs.Answers.{over, roomOf, givenBy, idColumn, sharedColumn, sizeColumn, questionOf, searchGoodOf, searchOf};
+ghost use Rattle.search.specs.Answers.{questionOf, over, asColumns, Searched};
 use candidates::Spent;
 
 // What a search answers. specs/Answers.antt sets out the number and the values of each case.
@@ -321,10 +321,7 @@ fn run(
     sizes: &mut [u32],
 ) -> Answer
     requires { ⌜ Good (now words) × (judgeOf (now query) ≡ 0) × (goodMeasure measure ≡ true) × (goodThreshold p q ≡ true) ⌝ }
-    ensures { λ r. ⌜ r ≡ searchGoodOf (now (query .entry)) measure p q allowance (now (words .entry)) (roomOf (now (ids .entry)) (now (shared .entry)) (now (sizes .entry))) ⌝ }
-    ensures { λ r. ⌜ now (ids .exit) ≡ over (idColumn (now (words .entry)) (givenBy r (answersOf (now (words .entry)) measure p q (featuresOf (now (query .entry)))))) (now (ids .entry)) ⌝ }
-    ensures { λ r. ⌜ now (shared .exit) ≡ over (sharedColumn (now (words .entry)) (featuresOf (now (query .entry))) (givenBy r (answersOf (now (words .entry)) measure p q (featuresOf (now (query .entry)))))) (now (shared .entry)) ⌝ }
-    ensures { λ r. ⌜ now (sizes .exit) ≡ over (sizeColumn (now (words .entry)) (givenBy r (answersOf (now (words .entry)) measure p q (featuresOf (now (query .entry)))))) (now (sizes .entry)) ⌝ }
+    ensures { λ r. ⌜ Searched (now (query .entry)) measure p q allowance (now (words .entry)) (asColumns (now (ids .entry)) (now (shared .entry)) (now (sizes .entry))) (asColumns (now (ids .exit)) (now (shared .exit)) (now (sizes .exit))) r ⌝ }
 {
     let n = words::name_count(words);
     let names = &words[3..3 + n];
@@ -382,10 +379,7 @@ pub fn search_good(
     sizes: &mut [u32],
 ) -> Answer
     requires { ⌜ Good (now words) ⌝ }
-    ensures { λ r. ⌜ r ≡ searchOf (now (query .entry)) measure p q allowance (now (words .entry)) (roomOf (now (ids .entry)) (now (shared .entry)) (now (sizes .entry))) ⌝ }
-    ensures { λ r. ⌜ now (ids .exit) ≡ over (idColumn (now (words .entry)) (givenBy r (answersOf (now (words .entry)) measure p q (featuresOf (now (query .entry)))))) (now (ids .entry)) ⌝ }
-    ensures { λ r. ⌜ now (shared .exit) ≡ over (sharedColumn (now (words .entry)) (featuresOf (now (query .entry))) (givenBy r (answersOf (now (words .entry)) measure p q (featuresOf (now (query .entry)))))) (now (shared .entry)) ⌝ }
-    ensures { λ r. ⌜ now (sizes .exit) ≡ over (sizeColumn (now (words .entry)) (givenBy r (answersOf (now (words .entry)) measure p q (featuresOf (now (query .entry)))))) (now (sizes .entry)) ⌝ }
+    ensures { λ r. ⌜ Searched (now (query .entry)) measure p q allowance (now (words .entry)) (asColumns (now (ids .entry)) (now (shared .entry)) (now (sizes .entry))) (asColumns (now (ids .exit)) (now (shared .exit)) (now (sizes .exit))) r ⌝ }
 {
     let number = question(query, measure, p, q);
     if number != 0 {
@@ -406,10 +400,7 @@ pub fn search(
     shared: &mut [u32],
     sizes: &mut [u32],
 ) -> Answer
-    ensures { λ r. ⌜ r ≡ searchOf (now (query .entry)) measure p q allowance (now (words .entry)) (roomOf (now (ids .entry)) (now (shared .entry)) (now (sizes .entry))) ⌝ }
-    ensures { λ r. ⌜ now (ids .exit) ≡ over (idColumn (now (words .entry)) (givenBy r (answersOf (now (words .entry)) measure p q (featuresOf (now (query .entry)))))) (now (ids .entry)) ⌝ }
-    ensures { λ r. ⌜ now (shared .exit) ≡ over (sharedColumn (now (words .entry)) (featuresOf (now (query .entry))) (givenBy r (answersOf (now (words .entry)) measure p q (featuresOf (now (query .entry)))))) (now (shared .entry)) ⌝ }
-    ensures { λ r. ⌜ now (sizes .exit) ≡ over (sizeColumn (now (words .entry)) (givenBy r (answersOf (now (words .entry)) measure p q (featuresOf (now (query .entry)))))) (now (sizes .entry)) ⌝ }
+    ensures { λ r. ⌜ Searched (now (query .entry)) measure p q allowance (now (words .entry)) (asColumns (now (ids .entry)) (now (shared .entry)) (now (sizes .entry))) (asColumns (now (ids .exit)) (now (shared .exit)) (now (sizes .exit))) r ⌝ }
 {
     let number = question(query, measure, p, q);
     if number != 0 {

@@ -110,9 +110,9 @@ module _ {A : Type 0} (s : Lending A) (lends : Lends s) (register words : List �
       true-rows : (j : ℕ) → j < rowsIn (answer s (ofBuilt register words a))
           → (i : ℕ)
           × (i < length (linesOf register))
-          × (getD (s .ids (after s (ofBuilt register words a))) j 0 ≡ idIn (nthLine register i))
-          × (getD (s .shared (after s (ofBuilt register words a))) j 0 ≡ sharedWithLine register a i)
-          × (getD (s .sizes (after s (ofBuilt register words a))) j 0 ≡ length (featuresOf (nameOf (nthLine register i))))
+          × (getD (s .rows (after s (ofBuilt register words a)) .ids) j 0 ≡ idIn (nthLine register i))
+          × (getD (s .rows (after s (ofBuilt register words a)) .shared) j 0 ≡ sharedWithLine register a i)
+          × (getD (s .rows (after s (ofBuilt register words a)) .sizes) j 0 ≡ length (featuresOf (nameOf (nthLine register i))))
       true-rows j l =
           let r = d .true-rows j l in
           let c = accepted-count register words k in

@@ -28,7 +28,7 @@ use Rattle.index.specs.Good.{goodOf}
 use Rattle.lists.specs.Lists.{listIn, featuresIn}
 use Rattle.lists.proofs.Laws.{features-member}
 use Rattle.search.specs.Method.{namesOf, sharedWith, touchesOfSize}
-use Rattle.search.specs.Answers.{numberIn, rowsIn, touchesIn, thresholdP, thresholdQ, questionOf, refusalOf, searchGoodOf, searchOf, givenBy, idColumn, sharedColumn, sizeColumn, over}
+use Rattle.search.specs.Answers.{numberIn, rowsIn, touchesIn, thresholdP, thresholdQ, questionOf, refusalOf, searchGoodOf, searchOf, givenBy, Columns, columnsOf, over, columnsOver}
 use Rattle.search.specs.declared.Answer.{Answer}
 use Rattle.search.specs.declared.Answer.the-variants.{Found, Refused}
 use Rattle.search.proofs.Laws.{length-lists, held-features, listed-similar, Query}
@@ -187,19 +187,13 @@ module _ {A : Type 0} (s : Lending A) (lends : Lends s) (a : Question A) where
           ap (λ (l : List ℕ). s .written (a .words) (featuresOf (a .query)) l (a .lent))
           (given-found (answer s a) (length (found a)) (steps a) (lowestTerms (a .p) (a .q) .p) (lowestTerms (a .p) (a .q) .q) (found a) (k .form))
 
-      ids-left : s .ids (after s a) ≡ over (idColumn (a .words) (found a)) (s .ids (a .lent))
-      ids-left = ap (s .ids) left ∙ lends .ids (a .words) (featuresOf (a .query)) (found a) (a .lent)
-
-      shared-left : s .shared (after s a) ≡ over (sharedColumn (a .words) (featuresOf (a .query)) (found a)) (s .shared (a .lent))
-      shared-left = ap (s .shared) left ∙ lends .shared (a .words) (featuresOf (a .query)) (found a) (a .lent)
-
-      sizes-left : s .sizes (after s a) ≡ over (sizeColumn (a .words) (found a)) (s .sizes (a .lent))
-      sizes-left = ap (s .sizes) left ∙ lends .sizes (a .words) (featuresOf (a .query)) (found a) (a .lent)
+      rows-left : s .rows (after s a) ≡ columnsOver (columnsOf (a .words) (featuresOf (a .query)) (found a)) (s .rows (a .lent))
+      rows-left = ap (s .rows) left ∙ lends .rows (a .words) (featuresOf (a .query)) (found a) (a .lent)
 
       ids : rowIds s a ≡ map (nameId (a .words)) (found a)
       ids =
-          ap₂ (λ (m : ℕ) (l : List ℕ). take m l) (rows ∙ sym (length-map (found a) (nameId (a .words)))) ids-left
-          ∙ over-taken (map (nameId (a .words)) (found a)) (s .ids (a .lent))
+          ap₂ (λ (m : ℕ) (l : List ℕ). take m l) (rows ∙ sym (length-map (found a) (nameId (a .words)))) (ap (λ (c : Columns). c .ids) rows-left)
+          ∙ over-taken (map (nameId (a .words)) (found a)) (s .rows (a .lent) .ids)
 
       exactly : (i : ℕ) → i < nameCount (a .words)
           → (member (nameId (a .words) i) (rowIds s a) ≡ true) ↔ Reaches a (length (featuresOf (a .query))) (nameSize (a .words) i) (sharedBy a i)
@@ -217,9 +211,9 @@ module _ {A : Type 0} (s : Lending A) (lends : Lends s) (a : Question A) where
       true-rows : (j : ℕ) → j < rowsIn (answer s a)
           → (i : ℕ)
           × (i < nameCount (a .words))
-          × (getD (s .ids (after s a)) j 0 ≡ nameId (a .words) i)
-          × (getD (s .shared (after s a)) j 0 ≡ sharedBy a i)
-          × (getD (s .sizes (after s a)) j 0 ≡ nameSize (a .words) i)
+          × (getD (s .rows (after s a) .ids) j 0 ≡ nameId (a .words) i)
+          × (getD (s .rows (after s a) .shared) j 0 ≡ sharedBy a i)
+          × (getD (s .rows (after s a) .sizes) j 0 ≡ nameSize (a .words) i)
       true-rows j l =
           let e = rows in
           let h : j < length (found a) = omega arith in
@@ -228,9 +222,9 @@ module _ {A : Type 0} (s : Lending A) (lends : Lends s) (a : Question A) where
           let at : (c d : List ℕ) (f : ℕ → ℕ) → c ≡ over (map f (found a)) d → getD c j 0 ≡ f i = λ c d f e. ap (λ (x : List ℕ). getD x j 0) e ∙ over-at f (found a) d j h in (
             i,
             there,
-            at _ (s .ids (a .lent)) (nameId (a .words)) ids-left,
-            at _ (s .shared (a .lent)) (sharedWith (a .words) (featuresOf (a .query))) shared-left ∙ shared-by (k .asked) b i there,
-            at _ (s .sizes (a .lent)) (nameSize (a .words)) sizes-left,
+            at _ (s .rows (a .lent) .ids) (nameId (a .words)) (ap (λ (c : Columns). c .ids) rows-left),
+            at _ (s .rows (a .lent) .shared) (sharedWith (a .words) (featuresOf (a .query))) (ap (λ (c : Columns). c .shared) rows-left) ∙ shared-by (k .asked) b i there,
+            at _ (s .rows (a .lent) .sizes) (nameSize (a .words)) (ap (λ (c : Columns). c .sizes) rows-left),
           )
 
   -- ---- demand 3

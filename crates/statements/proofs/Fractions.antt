@@ -19,7 +19,7 @@ use Rattle.likeness.proofs.Terms.{lowest-equal}
 use Rattle.words.specs.Words.{nameCount, nameId, nameSize}
 use Rattle.candidates.specs.Method.{remains, laterCount}
 use Rattle.search.specs.Method.{listsFor, touchesAt, sizesEnd, touchesOfSize, touchesOf, listed, answersBelow, answersOf}
-use Rattle.search.specs.Answers.{questionOf, refusalOf, searchGoodOf, searchOf, givenBy, idColumn, sharedColumn, sizeColumn}
+use Rattle.search.specs.Answers.{questionOf, refusalOf, searchGoodOf, searchOf, givenBy, columnsOf}
 use Rattle.search.specs.declared.Answer.{Answer}
 use Rattle.search.specs.declared.Answer.the-variants.{Found, Refused}
 use Rattle.layouts.specs.Layouts.{Fitting, lineOf}
@@ -111,7 +111,7 @@ fractions = (same-fraction columns, same-fraction records)
 
 -- the lines of an answer, from the places that it gives
 linesFrom : List ℕ → List ℕ → Answer → List ℕ → List ℕ
-linesFrom w query r places = answerText r (idColumn w places) (sharedColumn w (featuresOf query) places) (sizeColumn w places)
+linesFrom w query r places = answerText r (columnsOf w (featuresOf query) places)
 
 -- a 51 line that was written is answered by the search that its fields and its query ask for
 answer-line : (w query : List ℕ) (m p q allowance : ℕ) → Bytes query → length query ≤ 255 → m < 256 → allowance < 4294967296 → GoodThreshold p q

@@ -10,17 +10,15 @@ use Rattle.laws.specs.Lists.{member}
 use Rattle.laws.proofs.Members.{member-head, member-tail}
 use Rattle.words.specs.Words.{nameId, nameSize}
 use Rattle.search.specs.Method.{sharedWith}
-use Rattle.search.specs.Answers.{over, idColumn, sharedColumn, sizeColumn}
+use Rattle.search.specs.Answers.{over, columnsOf, columnsOver}
 use Rattle.search.proofs.Listed.{over-beyond}
 use Rattle.rows.specs.Rows.{rowOf, rowsOf, overRows}
 use Rattle.rows.specs.declared.Row.{Row}
-use Rattle.rows.proofs.Laws.{over-ids, over-shared, over-sizes}
+use Rattle.rows.proofs.Laws.{over-columns}
 use Rattle.statements.specs.Demands.{Lending, columns, records}
 
 pub record Lends {A : Type 0} (s : Lending A) : Type 0 where
-  pub ids : (w query places : List ℕ) (l : A) → s .ids (s .written w query places l) ≡ over (idColumn w places) (s .ids l)
-  pub shared : (w query places : List ℕ) (l : A) → s .shared (s .written w query places l) ≡ over (sharedColumn w query places) (s .shared l)
-  pub sizes : (w query places : List ℕ) (l : A) → s .sizes (s .written w query places l) ≡ over (sizeColumn w places) (s .sizes l)
+  pub rows : (w query places : List ℕ) (l : A) → s .rows (s .written w query places l) ≡ columnsOver (columnsOf w query places) (s .rows l)
   pub behind : (w query places : List ℕ) (l : A) → s .behind (length places) (s .written w query places l) ≡ s .behind (length places) l
   pub none : (w query : List ℕ) (l : A) → s .written w query [] l ≡ l
   -- names with the same rows are written alike
@@ -31,7 +29,7 @@ map-members : {B : Type 0} (f g : ℕ → B) (l : List ℕ) → ((x : ℕ) → m
 map-members f g [] e = refl
 map-members {B} f g (x ∷ l) e = ap₂ (λ (y : B) (k : List B). y ∷ k) (e x (member-head x l)) (map-members f g l (λ y m. e y (member-tail x y l m)))
 
--- behind as many entries as there are places
+-- after as many entries as there are places
 beyond : (f : ℕ → ℕ) (places l : List ℕ) → drop (length places) (over (map f places) l) ≡ drop (length places) l
 beyond f places l =
     let n : length (map f places) ≡ length places = length-map places f in
@@ -40,9 +38,7 @@ beyond f places l =
 pub columns-lend : Lends columns
 columns-lend =
     record {
-      ids = λ w query places l. refl;
-      shared = λ w query places l. refl;
-      sizes = λ w query places l. refl;
+      rows = λ w query places l. refl;
       behind = λ w query places l t.
           record {
             ids = beyond (nameId w) places (l .ids) t;
@@ -61,9 +57,7 @@ columns-lend =
 pub records-lend : Lends records
 records-lend =
     record {
-      ids = over-ids;
-      shared = over-shared;
-      sizes = over-sizes;
+      rows = over-columns;
       behind = λ w query places l.
           let n : length (rowsOf w query places) ≡ length places = length-map places (rowOf w query) in
           ap (λ (m : ℕ). drop m (records .written w query places l)) (sym n)

@@ -20,31 +20,31 @@ use Rattle.lines.specs.Lines.{linesOf}
 use Rattle.register.specs.Build.{builtOf, wordsAfter}
 use Rattle.words.specs.Words.{nameId, nameSize}
 use Rattle.search.specs.Method.{sharedWith, answersOf}
-use Rattle.search.specs.Answers.{numberIn, rowsIn, touchesIn, thresholdP, thresholdQ, searchOf, roomOf, over, givenBy, idColumn, sharedColumn, sizeColumn}
+use Rattle.search.specs.Answers.{numberIn, rowsIn, touchesIn, thresholdP, thresholdQ, searchOf, givenBy, Columns, roomOf, over}
 use Rattle.search.specs.declared.Answer.{Answer}
 use Rattle.search.specs.declared.Answer.the-variants.{Found, Refused}
 use Rattle.search.proofs.Found.{given-found, answered}
 use Rattle.answers.specs.declared.Opened.{Opened}
-use Rattle.answers.specs.Output.{mostInput, registerEnd, registerOf, queriesOf, programWords, rowsLent, openedOf, openWords, queryIn, measureIn, pIn, qIn, allowanceIn, searchFor, placesFor, rowLine, endLine, refusalLine, answerOf, endsAnswer, answerLines, answersText, outputOf}
+use Rattle.answers.specs.Output.{mostInput, registerEnd, registerOf, queriesOf, programWords, rowsLent, openedOf, openWords, queryIn, measureIn, pIn, qIn, allowanceIn, searchFor, placesFor, columnsFor, rowLine, rowText, endLine, refusalLine, answerOf, endsAnswer, answerLines, answersText, outputOf}
 use Rattle.answers.proofs.Responding.{output-opened, output-refused}
 use Rattle.answers.proofs.Ends.{lines-query, lines-stray, lines-once, lines-all, lines-count, output-broken}
-use Rattle.statements.specs.Demands.{Columns, columns, Question, answer, number, steps, found, after, refusals, Answered, touchesWith, Demand1, Demand2, Demands, Accepted, ofBuilt}
+use Rattle.statements.specs.Demands.{columns, Question, answer, number, steps, found, after, refusals, Answered, touchesWith, Demand1, Demand2, Demands, Accepted, ofBuilt}
 use Rattle.statements.specs.Program.{indexWords, Registered, asks, asked, numberTo, rowsTo, rowTo, linesTo, AnswerTo, Program, Programs}
 use Rattle.statements.proofs.Demands.{searches}
 use Rattle.statements.proofs.Building.{end-to-end}
 
 -- ---- the lines of an answer, by its number
 
-lines-refused : (r : Answer) (ids shared sizes : List ℕ) → (numberIn r ≡ 0 → ⊥) → answerLines r ids shared sizes ≡ refusalLine (numberIn r) (touchesIn r) ∷ []
+lines-refused : (r : Answer) (c : Columns) → (numberIn r ≡ 0 → ⊥) → answerLines r c ≡ refusalLine (numberIn r) (touchesIn r) ∷ []
 unfolding answerLines
-lines-refused (Found rows touches p q) ids shared sizes n = absurd (n refl)
-lines-refused (Refused number touches) ids shared sizes n = refl
+lines-refused (Found rows touches p q) c n = absurd (n refl)
+lines-refused (Refused number touches) c n = refl
 
-lines-found : (r : Answer) (ids shared sizes : List ℕ) (rows touches p q : ℕ) → r ≡ Found rows touches p q
-    → answerLines r ids shared sizes
-    ≡ tabulate (λ (k : ℕ). rowLine (getD ids k 0) (getD shared k 0) (getD sizes k 0)) rows ++ (endLine rows touches p q ∷ [])
+lines-found : (r : Answer) (c : Columns) (rows touches p q : ℕ) → r ≡ Found rows touches p q
+    → answerLines r c
+    ≡ tabulate (rowText c) rows ++ (endLine rows touches p q ∷ [])
 unfolding answerLines
-lines-found r ids shared sizes rows touches p q e = ap (λ (x : Answer). answerLines x ids shared sizes) e
+lines-found r c rows touches p q e = ap (λ (x : Answer). answerLines x c) e
 
 -- ---- one query line
 
@@ -53,7 +53,7 @@ module _ (input line : List ℕ) (query : isFrame queryFrame line ≡ true) wher
   w = wordsAfter (registerOf input) indexWords
 
   -- as many rows are lent to the question as to the search that the program makes
-  lent : roomOf (replicate rowsLent 0) (replicate rowsLent 0) (replicate rowsLent 0) ≡ rowsLent
+  lent : roomOf (asks line .lent) ≡ rowsLent
   lent = refl
 
   same : searchFor w line ≡ answer columns (asked input line)
@@ -69,7 +69,7 @@ module _ (input line : List ℕ) (query : isFrame queryFrame line ≡ true) wher
   query-refused n =
       let j = demanded .one .judged in
       lines-query w line query
-      ∙ lines-refused (searchFor w line) _ _ _ (λ z. n (sym j ∙ ap numberIn (sym same) ∙ z))
+      ∙ lines-refused (searchFor w line) _ (λ z. n (sym j ∙ ap numberIn (sym same) ∙ z))
       ∙ ap₂ (λ (x y : ℕ). refusalLine x y ∷ []) (ap numberIn same ∙ j) (ap touchesIn same ∙ demanded .one .touched ∙ ap (touchesWith (asked input line)) j)
 
   -- a column holds what was given at its start
@@ -78,24 +78,14 @@ module _ (input line : List ℕ) (query : isFrame queryFrame line ≡ true) wher
       let m = length-map given f in
       sym (List·getD-append (map f given) (drop (length (map f given)) s) 0 k (omega arith)) ∙ ap (λ (l : List ℕ). getD (over (map f l) s) k 0) e
 
-  -- row k as the program's columns have it
-  row : ℕ → List ℕ
-  row k =
-      rowLine
-      (getD (idColumn w (placesFor w line)) k 0)
-      (getD (sharedColumn w (featuresOf (queryIn line)) (placesFor w line)) k 0)
-      (getD (sizeColumn w (placesFor w line)) k 0)
-
-  row-same : (k : ℕ) → k < length (placesFor w line) → row k ≡ rowTo input line k
-  unfolding w row
+  row-same : (k : ℕ) → k < length (placesFor w line) → rowText (columnsFor w line) k ≡ rowTo input line k
+  unfolding w
   row-same k h =
       let e : placesFor w line ≡ givenBy (answer columns (asked input line)) (found (asked input line)) = ap (λ (r : Answer). givenBy r (found (asked input line))) same in
-      ap
-      (λ (x : ℕ). rowLine x (getD (sharedColumn w (featuresOf (queryIn line)) (placesFor w line)) k 0) (getD (sizeColumn w (placesFor w line)) k 0))
-      (column-at (nameId w) _ _ (replicate rowsLent 0) k e h)
-      ∙ ap₂ (λ (x y : ℕ). rowLine (getD (after columns (asked input line) .ids) k 0) x y)
-      (column-at (sharedWith w (featuresOf (queryIn line))) _ _ (replicate rowsLent 0) k e h)
-      (column-at (nameSize w) _ _ (replicate rowsLent 0) k e h)
+      λ t. rowLine
+      (column-at (nameId w) _ _ (replicate rowsLent 0) k e h t)
+      (column-at (sharedWith w (featuresOf (queryIn line))) _ _ (replicate rowsLent 0) k e h t)
+      (column-at (nameSize w) _ _ (replicate rowsLent 0) k e h t)
 
   -- the end of the answer, with so many rows
   end : ℕ → List (List ℕ)
@@ -105,17 +95,17 @@ module _ (input line : List ℕ) (query : isFrame queryFrame line ≡ true) wher
       → linesTo input line
       ≡ tabulate (rowTo input line) (rowsTo input line)
       ++ (endLine (rowsTo input line) (steps (asked input line)) (lowestTerms (pIn line) (qIn line) .p) (lowestTerms (pIn line) (qIn line) .q) ∷ [])
-  unfolding w row end
+  unfolding w end
   query-answered n =
       let z : numberIn (answer columns (asked input line)) ≡ 0 = demanded .one .judged ∙ n in
-      let k = answered (queryIn line) (measureIn line) (pIn line) (qIn line) (allowanceIn line) w (roomOf (replicate rowsLent 0) (replicate rowsLent 0) (replicate rowsLent 0)) z in
+      let k = answered (queryIn line) (measureIn line) (pIn line) (qIn line) (allowanceIn line) w (roomOf (asks line .lent)) z in
       let e : rowsTo input line ≡ length (found (asked input line)) = ap rowsIn (k .form) in
       let g : placesFor w line ≡ found (asked input line) = given-found (searchFor w line) _ _ _ _ (found (asked input line)) (same ∙ k .form) in
       let l : rowsTo input line ≡ length (placesFor w line) = e ∙ ap length (sym g) in
       lines-query w line query
-      ∙ lines-found (searchFor w line) _ _ _ _ _ _ _ (same ∙ k .form)
-      ∙ ap (λ (x : ℕ). tabulate row x ++ end x) (sym e)
-      ∙ ap (λ (rs : List (List ℕ)). rs ++ end (rowsTo input line)) (tabulate-ext row (rowTo input line) (rowsTo input line) (λ i h. row-same i (omega arith)))
+      ∙ lines-found (searchFor w line) _ _ _ _ _ (same ∙ k .form)
+      ∙ ap (λ (x : ℕ). tabulate (rowText (columnsFor w line)) x ++ end x) (sym e)
+      ∙ ap (λ (rs : List (List ℕ)). rs ++ end (rowsTo input line)) (tabulate-ext (rowText (columnsFor w line)) (rowTo input line) (rowsTo input line) (λ i h. row-same i (omega arith)))
 
 -- ---- all of the output
 

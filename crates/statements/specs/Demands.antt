@@ -37,48 +37,33 @@ use Rattle.lines.specs.Lines.{linesOf, nthLine}
 use Rattle.register.specs.Build.{idIn, nameOf, entryOf, judgeNth, builtOf, wordsAfter}
 use Rattle.candidates.specs.Method.{signatures, signaturePostings}
 use Rattle.search.specs.Method.{namesOf, listsFor, remaining, touchesOfSize, touchesOf, answersOf}
-use Rattle.search.specs.Answers.{numberIn, rowsIn, touchesIn, thresholdP, thresholdQ, refusalCases, searchOf, givenBy, roomOf, over, idColumn, sharedColumn, sizeColumn}
+use Rattle.search.specs.Answers.{numberIn, rowsIn, touchesIn, thresholdP, thresholdQ, refusalCases, searchOf, givenBy, Columns, roomOf, columnsOf, columnsOver}
 use Rattle.search.specs.declared.Answer.{Answer}
-use Rattle.rows.specs.Rows.{rowsOf, overRows}
+use Rattle.rows.specs.Rows.{rowsOf, overRows, columnsIn}
 use Rattle.rows.specs.declared.Row.{Row as Record}
 use Rattle.answers.specs.Output.{answerOf}
 
 -- ---- rows that are lent
 
--- three columns, as they are lent to `search`
-pub record Columns : Type 0 where
-  pub ids : List ℕ
-  pub shared : List ℕ
-  pub sizes : List ℕ
-
 -- a way to lend rows; A is what is lent
 pub record Lending (A : Type 0) : Type 0 where
   -- how many rows there is room for
   pub room : A → ℕ
-  -- the ids, the shared counts and the sizes that stand there, row by row
-  pub ids : A → List ℕ
-  pub shared : A → List ℕ
-  pub sizes : A → List ℕ
-  -- what stands behind the first n rows
+  -- the rows that stand there, as columns
+  pub rows : A → Columns
+  -- what stands after the first n rows
   pub behind : ℕ → A → A
   -- what stands there once the rows of some names are written: of the words, the query's features and the names' places among the names
   pub written : List ℕ → List ℕ → List ℕ → A → A
 
--- three columns have room for as many rows as the shortest
+-- columns, as they are lent to `search`
 abbrev pub columns : Lending Columns
 columns =
     record {
-      room = λ (c : Columns). roomOf (c .ids) (c .shared) (c .sizes);
-      ids = λ (c : Columns). c .ids;
-      shared = λ (c : Columns). c .shared;
-      sizes = λ (c : Columns). c .sizes;
+      room = roomOf;
+      rows = λ (c : Columns). c;
       behind = λ (n : ℕ) (c : Columns). record { ids = drop n (c .ids); shared = drop n (c .shared); sizes = drop n (c .sizes) };
-      written = λ (w query places : List ℕ) (c : Columns).
-          record {
-            ids = over (idColumn w places) (c .ids);
-            shared = over (sharedColumn w query places) (c .shared);
-            sizes = over (sizeColumn w places) (c .sizes);
-          };
+      written = λ (w query places : List ℕ) (c : Columns). columnsOver (columnsOf w query places) c;
     }
 
 -- a list of records, as it is lent to `search_rows`, has room for as many rows as it has records
@@ -86,9 +71,7 @@ abbrev pub records : Lending (List Record)
 records =
     record {
       room = λ (l : List Record). length l;
-      ids = λ (l : List Record). map (λ (r : Record). r .id) l;
-      shared = λ (l : List Record). map (λ (r : Record). r .shared) l;
-      sizes = λ (l : List Record). map (λ (r : Record). r .size) l;
+      rows = columnsIn;
       behind = λ (n : ℕ) (l : List Record). drop n l;
       written = λ (w query places : List ℕ) (l : List Record). overRows (rowsOf w query places) l;
     }
@@ -193,7 +176,7 @@ Reaches a x y c =
 
 -- the ids of the rows
 abbrev pub rowIds : {A : Type 0} → Lending A → Question A → List ℕ
-rowIds s a = take (rowsIn (answer s a)) (s .ids (after s a))
+rowIds s a = take (rowsIn (answer s a)) (s .rows (after s a) .ids)
 
 pub record Demand2 {A : Type 0} (s : Lending A) (a : Question A) : Type 0 where
   -- a name of the index is listed exactly if its similarity reaches the threshold
@@ -204,9 +187,9 @@ pub record Demand2 {A : Type 0} (s : Lending A) (a : Question A) : Type 0 where
   pub true-rows : (j : ℕ) → j < rowsIn (answer s a)
       → (i : ℕ)
       × (i < nameCount (a .words))
-      × (getD (s .ids (after s a)) j 0 ≡ nameId (a .words) i)
-      × (getD (s .shared (after s a)) j 0 ≡ sharedBy a i)
-      × (getD (s .sizes (after s a)) j 0 ≡ nameSize (a .words) i)
+      × (getD (s .rows (after s a) .ids) j 0 ≡ nameId (a .words) i)
+      × (getD (s .rows (after s a) .shared) j 0 ≡ sharedBy a i)
+      × (getD (s .rows (after s a) .sizes) j 0 ≡ nameSize (a .words) i)
   -- by ascending id, and so once each
   pub ascending : Ascending (rowIds s a)
   -- as many as the answer says, and within the room
@@ -392,9 +375,9 @@ pub record Listing {A : Type 0} (s : Lending A) (register words : List ℕ) (a :
   pub true-rows : (j : ℕ) → j < rowsIn (answer s (ofBuilt register words a))
       → (i : ℕ)
       × (i < length (linesOf register))
-      × (getD (s .ids (after s (ofBuilt register words a))) j 0 ≡ idIn (nthLine register i))
-      × (getD (s .shared (after s (ofBuilt register words a))) j 0 ≡ sharedWithLine register a i)
-      × (getD (s .sizes (after s (ofBuilt register words a))) j 0 ≡ length (featuresOf (nameOf (nthLine register i))))
+      × (getD (s .rows (after s (ofBuilt register words a)) .ids) j 0 ≡ idIn (nthLine register i))
+      × (getD (s .rows (after s (ofBuilt register words a)) .shared) j 0 ≡ sharedWithLine register a i)
+      × (getD (s .rows (after s (ofBuilt register words a)) .sizes) j 0 ≡ length (featuresOf (nameOf (nthLine register i))))
   pub ascending : Ascending (rowIds s (ofBuilt register words a))
   -- equal names under two ids are listed both or neither
   pub twins : (i j : ℕ) → i < length (linesOf register) → j < length (linesOf register) → nameOf (nthLine register i) ≡ nameOf (nthLine register j)

@@ -6,7 +6,7 @@ use mathlib.Core.Path.{_≡_}
 use mathlib.Core.Bool.{true, false}
 use mathlib.Core.List.{List, [], _∷_, _++_, map}
 use Prim.Native.Nat.{ℕ, _≤_, _<_}
-use lib.ListN.{length, getD, take, replicate}
+use lib.ListN.{length, take, replicate}
 use Rattle.laws.specs.Lists.{countOf, tabulate}
 use Rattle.laws.specs.Cases.{firstCase}
 use Rattle.likeness.specs.Terms.{lowestTerms}
@@ -14,9 +14,9 @@ use Rattle.layouts.specs.Layouts.{isFrame}
 use Rattle.frames.specs.Frames.{queryFrame}
 use Rattle.lines.specs.Lines.{linesOf, joined}
 use Rattle.register.specs.Build.{builtOf, wordsAfter}
-use Rattle.search.specs.Answers.{rowsIn}
-use Rattle.answers.specs.Output.{mostInput, programWords, rowsLent, registerOf, queriesOf, queryIn, measureIn, pIn, qIn, allowanceIn, rowLine, endLine, refusalLine, answerOf, endsAnswer, outputOf}
-use Rattle.statements.specs.Demands.{Columns, columns, Question, answer, steps, after, refusals, Answered, touchesWith, Accepted, ofBuilt, Listing}
+use Rattle.search.specs.Answers.{rowsIn, Columns}
+use Rattle.answers.specs.Output.{mostInput, programWords, rowsLent, registerOf, queriesOf, queryIn, measureIn, pIn, qIn, allowanceIn, rowText, endLine, refusalLine, answerOf, endsAnswer, outputOf}
+use Rattle.statements.specs.Demands.{columns, Question, answer, steps, after, refusals, Answered, touchesWith, Accepted, ofBuilt, Listing}
 
 -- the words of the program's index, as they are lent to the build
 abbrev pub indexWords : List ℕ
@@ -55,11 +55,7 @@ rowsTo input line = rowsIn (answer columns (asked input line))
 
 -- row j of them, as a 52 line
 abbrev pub rowTo : List ℕ → List ℕ → ℕ → List ℕ
-rowTo input line j =
-    rowLine
-    (getD (after columns (asked input line) .ids) j 0)
-    (getD (after columns (asked input line) .shared) j 0)
-    (getD (after columns (asked input line) .sizes) j 0)
+rowTo input line j = rowText (after columns (asked input line)) j
 
 -- the lines that a line is answered with
 abbrev pub linesTo : List ℕ → List ℕ → List (List ℕ)

@@ -2,9 +2,9 @@
 -- alone. include/rushgirdle.h promises them. That a refused build sets every word is `refused-words` of the crate register; that a refused
 -- reading and a refused writing keep the buffer is `buffer-kept` and `out-kept` of the crate layouts.
 -- Assumes nothing.
-use mathlib.Core.Path.{_≡_, refl}
+use mathlib.Core.Path.{_≡_, refl, ap}
 use mathlib.Core.Bool.{Bool, true, false, cond}
-use mathlib.Core.List.{List, [], map}
+use mathlib.Core.List.{List}
 use Prim.Native.Nat.{ℕ, _+_, _≤_}
 use native.Mathlib.Omega.{arith}
 use borrow.Author.Tests.{leb-true, ltb-false}
@@ -22,10 +22,11 @@ use Rattle.lists.proofs.Spans.{span-within}
 use Rattle.search.specs.declared.Answer.{Answer}
 use Rattle.search.specs.declared.Answer.the-variants.{Found, Refused}
 use Rattle.search.specs.Method.{touchesOf, answersOf}
-use Rattle.search.specs.Answers.{rowsIn, touchesIn, refusalOf, searchGoodOf, searchOf, roomOf, over, givenBy}
+use Rattle.search.specs.Answers.{rowsIn, touchesIn, refusalOf, searchGoodOf, searchOf, Columns, roomOf, columnsOf, columnsOver, columnsAfter}
 use Rattle.rows.specs.declared.Row.{Row}
-use Rattle.rows.specs.Rows.{rowsOf, overRows}
+use Rattle.rows.specs.Rows.{rowsAfter}
 use Rattle.rows.proofs.Laws.{rows-refused}
+use Rattle.search.proofs.Found.{refused-gives}
 use Rattle.surface.specs.Flat.{listAnswer, searchAnswer, writeAnswer}
 
 -- a list lies within the words, whatever they are
@@ -56,25 +57,23 @@ module _ (query : List ℕ) (m p q allowance : ℕ) (w : List ℕ) (room : ℕ) 
       by-test true false false e = ltb-false room (rowsIn found) e
 
 -- and so within each of the three columns
-pub columns-within : (query : List ℕ) (m p q allowance : ℕ) (w ids shared sizes : List ℕ)
-    → let r = searchAnswer (searchOf query m p q allowance w (roomOf ids shared sizes)) .rows in
-    (r ≤ length ids) × (r ≤ length shared) × (r ≤ length sizes)
-columns-within query m p q allowance w ids shared sizes =
-    let h = rows-within query m p q allowance w (roomOf ids shared sizes) in
+pub columns-within : (query : List ℕ) (m p q allowance : ℕ) (w : List ℕ) (c : Columns)
+    → let r = searchAnswer (searchOf query m p q allowance w (roomOf c)) .rows in
+    (r ≤ length (c .ids)) × (r ≤ length (c .shared)) × (r ≤ length (c .sizes))
+columns-within query m p q allowance w c =
+    let h = rows-within query m p q allowance w (roomOf c) in
     (omega arith, omega arith, omega arith)
 
 -- a refused search keeps every column
-pub columns-kept : (a : Answer) → (searchAnswer a .number ≡ 0 → ⊥) → (value : ℕ → ℕ) (places column : List ℕ)
-    → over (map value (givenBy a places)) column ≡ column
-unfolding givenBy
-columns-kept (Found rows touches p q) n value places column = absurd (n refl)
-columns-kept (Refused number touches) n value places column = refl
+pub columns-kept : (query : List ℕ) (m p q allowance : ℕ) (w : List ℕ) (c : Columns)
+    → (searchAnswer (searchOf query m p q allowance w (roomOf c)) .number ≡ 0 → ⊥) → columnsAfter query m p q allowance w c ≡ c
+columns-kept query m p q allowance w c n =
+    ap (λ (l : List ℕ). columnsOver (columnsOf w (featuresOf query) l) c) (refused-gives (searchOf query m p q allowance w (roomOf c)) (answersOf w m p q (featuresOf query)) n)
 
 -- and every record
-pub records-kept : (a : Answer) → (searchAnswer a .number ≡ 0 → ⊥) → (w query places : List ℕ) (lent : List Row)
-    → overRows (rowsOf w query (givenBy a places)) lent ≡ lent
-records-kept (Found rows touches p q) n w query places lent = absurd (n refl)
-records-kept (Refused number touches) n w query places lent = rows-refused w query places number touches lent
+pub records-kept : (query : List ℕ) (m p q allowance : ℕ) (w : List ℕ) (rows : List Row)
+    → (searchAnswer (searchOf query m p q allowance w (length rows)) .number ≡ 0 → ⊥) → rowsAfter query m p q allowance w rows ≡ rows
+records-kept query m p q allowance w rows n = rows-refused query m p q allowance w rows n
 
 -- a name that was read lies within its buffer
 pub name-within : (y : Layout) (line : List ℕ) (room : ℕ) → readOf y line room .len ≤ room

@@ -3,15 +3,13 @@
 ghost use mathlib.Core.Path.{_≡_};
 ghost use mathlib.Core.List.{[], _∷_};
 ghost use lib.ListN.{length};
-ghost use Rattle.names.specs.Features.{featuresOf};
 ghost use Rattle.layouts.specs.Layouts.{readOf, bufferOf, writtenOf, outOf};
 ghost use Rattle.frames.specs.Frames.{nameFrame, queryFrame, rowFrame, endFrame, refusalFrame};
 ghost use Rattle.index.specs.Good.{goodOf};
 ghost use Rattle.lists.specs.Lists.{spanFor};
 ghost use Rattle.register.specs.Build.{builtOf, wordsAfter};
-ghost use Rattle.search.specs.Method.{answersOf};
-ghost use Rattle.search.specs.Answers.{over, roomOf, givenBy, idColumn, sharedColumn, sizeColumn, searchOf};
-ghost use Rattle.rows.specs.Rows.{rowsOf, overRows};
+ghost use Rattle.search.specs.Answers.{searchOf, asColumns, roomOf, columnsAfter};
+ghost use Rattle.rows.specs.Rows.{rowsAfter};
 ghost use Rattle.surface.specs.Flat.{buildAnswer, listAnswer, searchAnswer, writeAnswer, nameAnswer, queryAnswer, rowAnswer, endAnswer, refusalAnswer};
 use rows::Row;
 use search::Answer;
@@ -165,10 +163,8 @@ pub extern "C" fn rushgirdle_search(
     shared: &mut [u32],
     sizes: &mut [u32],
 ) -> SearchAnswer
-    ensures { λ r. ⌜ r ≡ searchAnswer (searchOf (now (query .entry)) measure p q allowance (now (words .entry)) (roomOf (now (ids .entry)) (now (shared .entry)) (now (sizes .entry)))) ⌝ }
-    ensures { λ _. ⌜ now (ids .exit) ≡ over (idColumn (now (words .entry)) (givenBy (searchOf (now (query .entry)) measure p q allowance (now (words .entry)) (roomOf (now (ids .entry)) (now (shared .entry)) (now (sizes .entry)))) (answersOf (now (words .entry)) measure p q (featuresOf (now (query .entry)))))) (now (ids .entry)) ⌝ }
-    ensures { λ _. ⌜ now (shared .exit) ≡ over (sharedColumn (now (words .entry)) (featuresOf (now (query .entry))) (givenBy (searchOf (now (query .entry)) measure p q allowance (now (words .entry)) (roomOf (now (ids .entry)) (now (shared .entry)) (now (sizes .entry)))) (answersOf (now (words .entry)) measure p q (featuresOf (now (query .entry)))))) (now (shared .entry)) ⌝ }
-    ensures { λ _. ⌜ now (sizes .exit) ≡ over (sizeColumn (now (words .entry)) (givenBy (searchOf (now (query .entry)) measure p q allowance (now (words .entry)) (roomOf (now (ids .entry)) (now (shared .entry)) (now (sizes .entry)))) (answersOf (now (words .entry)) measure p q (featuresOf (now (query .entry)))))) (now (sizes .entry)) ⌝ }
+    ensures { λ r. ⌜ r ≡ searchAnswer (searchOf (now (query .entry)) measure p q allowance (now (words .entry)) (roomOf (asColumns (now (ids .entry)) (now (shared .entry)) (now (sizes .entry))))) ⌝ }
+    ensures { λ _. ⌜ asColumns (now (ids .exit)) (now (shared .exit)) (now (sizes .exit)) ≡ columnsAfter (now (query .entry)) measure p q allowance (now (words .entry)) (asColumns (now (ids .entry)) (now (shared .entry)) (now (sizes .entry))) ⌝ }
 {
     flat(search::search(query, measure, p, q, allowance, words, ids, shared, sizes))
 }
@@ -184,7 +180,7 @@ pub extern "C" fn rushgirdle_search_rows(
     words: &[u32],
     rows: &mut [Row],
 ) -> SearchAnswer
-    ensures { λ r. ⌜ (r ≡ searchAnswer (searchOf (now (query .entry)) measure p q allowance (now (words .entry)) (length (now (rows .entry))))) × (now (rows .exit) ≡ overRows (rowsOf (now (words .entry)) (featuresOf (now (query .entry))) (givenBy (searchOf (now (query .entry)) measure p q allowance (now (words .entry)) (length (now (rows .entry)))) (answersOf (now (words .entry)) measure p q (featuresOf (now (query .entry)))))) (now (rows .entry))) ⌝ }
+    ensures { λ r. ⌜ (r ≡ searchAnswer (searchOf (now (query .entry)) measure p q allowance (now (words .entry)) (length (now (rows .entry))))) × (now (rows .exit) ≡ rowsAfter (now (query .entry)) measure p q allowance (now (words .entry)) (now (rows .entry))) ⌝ }
 {
     flat(rows::search_rows(query, measure, p, q, allowance, words, rows))
 }

@@ -4,10 +4,10 @@ use mathlib.Core.List.{List}
 use Prim.Native.Nat.{ℕ}
 use lib.ListN.{length, take}
 use lib.Seq.{length-take-le}
-use Rattle.search.specs.Answers.{searchOf}
-use Rattle.answers.specs.Output.{fittingOf, fittedOf}
+use Rattle.search.specs.Answers.{asColumns, roomOf, Searched}
+use Rattle.answers.specs.Output.{rowsLent, fittingOf, fittedOf}
 use Rattle.answers.proofs.Text.{refusal-fitting, refusal-fitted}
-use Rattle.answers.proofs.Asking.{query-frame, query-bad, query-measure, query-p, query-q, query-allowance, query-within, query-bytes, shown, text-same, answer-as, room-lent}
+use Rattle.answers.proofs.Asking.{query-frame, query-bad, query-measure, query-p, query-q, query-allowance, query-within, query-bytes, shown, answer-as, room-lent}
 use borrow.Author.Needs.{needs}
 use Rattle.answers.proofs.answer_with.Statement.{statement}
 use Rattle.answers.proofs.answer_with.Tie as tie
@@ -52,18 +52,16 @@ slice-aggregate-ask c =
 ask-requires : tie.Need-ask-requires
 ask-requires c κs = search needs
 
-put-answer-requires : tie.Need-put-answer-requires
-put-answer-requires c κs =
-    let b = c .before .before .before .before .before .before .before .before .before .before .before .before .before .before .before .before .before .before .before .before .before .before .before .before .before .before .before in
+-- the search that was made
+searched : (c : tie.After-ask)
+    → let a = c .before .before .before .before .before .before .before .before .before .before .before .before .before .before .before .before .before .args in let y = c .before .before .before .before .before .before .before .before .read-query in let k = c .ask in (roomOf (asColumns (a .ids .now) (a .shared .now) (a .sizes .now)) ≡ rowsLent) × Searched (take (y .result .len) (y .last .1 .0)) (y .result .measure) (y .result .p) (y .result .q) (y .result .allowance) (a .words .now) (asColumns (a .ids .now) (a .shared .now) (a .sizes .now)) (asColumns (k .last .1 .1 .1 .1 .1 .1 .1 .0) (k .last .1 .1 .1 .1 .1 .1 .1 .1 .0) (k .last .1 .1 .1 .1 .1 .1 .1 .1 .1 .0)) (k .result)
+searched c =
+    let b = c .before .before .before .before .before .before .before .before .before .before .before .before .before .before .before .before .before in
     let a = b .args in
-    let y = c .before .before .before .before .before .before .before .before .before .before .before .before .before .before .before .before .before .before .read-query in
-    let z = c .before .before .before .before .before .before .before .before .before .before .before .before .before .before .before .if1 .left in
-    let k = c .before .before .before .before .before .before .before .before .before .before .ask in
-    let w = a .words .now in
-    let s = take (y .result .len) (y .last .1 .0) in
-    let room = room-lent (a .ids .now) (a .shared .now) (a .sizes .now) (b .pre .2) (b .pre .3) (b .pre .4) in
-    let e = k .ensures .0 ∙ ap (searchOf s (y .result .measure) (y .result .p) (y .result .q) (y .result .allowance) w) room in
-    shown s (y .result .measure) (y .result .p) (y .result .q) (y .result .allowance) w (a .ids .now) (a .shared .now) (a .sizes .now) (k .last .1 .1 .1 .1 .1 .1 .1 .0) (k .last .1 .1 .1 .1 .1 .1 .1 .1 .0) (k .last .1 .1 .1 .1 .1 .1 .1 .1 .1 .0) (k .result) e (k .ensures .1 .0) (k .ensures .1 .1 .0) (k .ensures .1 .1 .1)
+    (room-lent (asColumns (a .ids .now) (a .shared .now) (a .sizes .now)) (b .pre .2) (b .pre .3) (b .pre .4), c .ask .ensures)
+
+put-answer-requires : tie.Need-put-answer-requires
+put-answer-requires c κs = let k = searched (c .before .before .before .before .before .before .before .before .before .before) in shown _ _ _ _ _ _ _ _ _ (k .0) (k .1)
 
 same-length-3 : tie.Need-same-length-3
 same-length-3 c = search needs
@@ -86,22 +84,16 @@ returns-2 c =
     let a = b .args in
     let y = c .before .before .before .before .before .before .before .before .before .before .before .before .before .before .before .before .before .before .before .before .before .read-query in
     let z = c .before .before .before .before .before .before .before .before .before .before .before .before .before .before .before .before .before .before .if1 .left in
-    let k = c .before .before .before .before .before .before .before .before .before .before .before .before .before .ask in
-    let w = a .words .now in
-    let s = take (y .result .len) (y .last .1 .0) in
-    let room = room-lent (a .ids .now) (a .shared .now) (a .sizes .now) (b .pre .2) (b .pre .3) (b .pre .4) in
-    let e = k .ensures .0 ∙ ap (searchOf s (y .result .measure) (y .result .p) (y .result .q) (y .result .allowance) w) room in
+    let k = searched (c .before .before .before .before .before .before .before .before .before .before .before .before .before) in
     let v = c .before .before .put-answer .ensures in
     let t =
-    text-same s (y .result .measure) (y .result .p) (y .result .q) (y .result .allowance) w (a .ids .now) (a .shared .now) (a .sizes .now) (k .last .1 .1 .1 .1 .1 .1 .1 .0) (k .last .1 .1 .1 .1 .1 .1 .1 .1 .0) (k .last .1 .1 .1 .1 .1 .1 .1 .1 .1 .0) (k .result) e (k .ensures .1 .0) (k .ensures .1 .1 .0) (k .ensures .1 .1 .1)
-    ∙ answer-as w (a .line .now) s (y .result .measure) (y .result .p) (y .result .q) (y .result .allowance) (k .result)
+    answer-as _ _ _ _ _ _ _ _ _ (k .0) (k .1) (a .line .now)
     (query-frame (a .line .now) (a .query .now) (y .last .1 .0) (y .result) (b .pre .1) (y .ensures .0) (y .ensures .1) z)
     (query-bytes (a .line .now) (a .query .now) (y .last .1 .0) (y .result) (b .pre .1) (y .ensures .0) (y .ensures .1) z)
     (query-measure (a .line .now) (a .query .now) (y .last .1 .0) (y .result) (b .pre .1) (y .ensures .0) (y .ensures .1) z)
     (query-p (a .line .now) (a .query .now) (y .last .1 .0) (y .result) (b .pre .1) (y .ensures .0) (y .ensures .1) z)
     (query-q (a .line .now) (a .query .now) (y .last .1 .0) (y .result) (b .pre .1) (y .ensures .0) (y .ensures .1) z)
     (query-allowance (a .line .now) (a .query .now) (y .last .1 .0) (y .result) (b .pre .1) (y .ensures .0) (y .ensures .1) z)
-    e
     in
     (v .0 ∙ ap (λ (x : List ℕ). fittingOf x (length (a .out .now))) t, v .1 ∙ ap (λ (x : List ℕ). fittedOf x (a .out .now)) t)
 

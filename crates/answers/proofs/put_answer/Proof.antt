@@ -3,7 +3,7 @@ use mathlib.Core.Path.{_≡_, ap, subst, _∙_}
 use mathlib.Core.List.{List}
 use Prim.Native.Nat.{ℕ}
 use lib.ListN.{length}
-use Rattle.search.specs.Answers.{rowsIn}
+use Rattle.search.specs.Answers.{rowsIn, asColumns}
 use Rattle.answers.specs.Output.{fittingOf, fittedOf}
 use Rattle.answers.specs.Rows.{Shown}
 use Rattle.answers.proofs.Text.{text-found, text-refused, refusal-fitting, refusal-fitted}
@@ -18,7 +18,7 @@ put-found-requires : tie.Need-put-found-requires
 put-found-requires c κs =
     let b = c .before .before .before .before .before .before .before .before in
     let a = b .args in
-    subst (λ (n : ℕ). Shown (a .ids .now) (a .shared .now) (a .sizes .now) n) (ap rowsIn (c .before .before .answer .given .1)) (b .pre)
+    subst (λ (n : ℕ). Shown (asColumns (a .ids .now) (a .shared .now) (a .sizes .now)) n) (ap rowsIn (c .before .before .answer .given .1)) (b .pre)
 
 enum-known-answer-2 : tie.Need-enum-known-answer-2
 enum-known-answer-2 c = search needs
@@ -34,7 +34,7 @@ returns c =
     let a = c .before .before .before .before .before .before .before .before .before .before .before .args in
     let g = c .before .before .before .before .before .answer .given in
     let e = c .before .before .put-found .ensures in
-    let t = text-found (a .answer) _ _ _ _ (a .ids .now) (a .shared .now) (a .sizes .now) (g .1) in
+    let t = text-found (a .answer) _ _ _ _ (asColumns (a .ids .now) (a .shared .now) (a .sizes .now)) (g .1) in
     (e .0 ∙ ap (λ (s : List ℕ). fittingOf s (length (a .out .now))) t, e .1 ∙ ap (λ (s : List ℕ). fittedOf s (a .out .now)) t)
 
 same-length-2 : tie.Need-same-length-2
@@ -45,7 +45,7 @@ returns-2 c =
     let a = c .before .before .before .before .before .before .before .before .before .before .before .args in
     let g = c .before .before .before .before .before .answer2 .given in
     let e = c .before .before .write-refusal .ensures in
-    let t = text-refused (a .answer) _ _ (a .ids .now) (a .shared .now) (a .sizes .now) (g .1) in (
+    let t = text-refused (a .answer) _ _ (asColumns (a .ids .now) (a .shared .now) (a .sizes .now)) (g .1) in (
       e .0 ∙ refusal-fitting _ _ (length (a .out .now)) ∙ ap (λ (s : List ℕ). fittingOf s (length (a .out .now))) t,
       e .1 ∙ refusal-fitted _ _ (a .out .now) ∙ ap (λ (s : List ℕ). fittedOf s (a .out .now)) t,
     )

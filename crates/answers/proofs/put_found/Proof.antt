@@ -6,6 +6,7 @@ use native.Mathlib.Omega.{arith}
 use lib.ListN.{length, take, drop, length-append, length-drop}
 use lib.Seq.{length-take-le}
 use borrow.Rule.Slice.PartMut.{putMid}
+use Rattle.search.specs.Answers.{asColumns}
 use Rattle.answers.specs.Output.{rowsText, endLine, foundText}
 use Rattle.answers.proofs.Text.{length-rows, length-found, end-exact, put-end, fitting-none, fitted-none, fitting-all, fitted-found}
 use borrow.Author.Needs.{needs}
@@ -21,8 +22,8 @@ add-total c = search needs
 returns : tie.Need-returns
 returns c =
     let a = c .before .before .before .before .before .args in
-    let text = foundText (a .rows) (a .touches) (a .p) (a .q) (a .ids .now) (a .shared .now) (a .sizes .now) in
-    let n = length-found (a .rows) (a .touches) (a .p) (a .q) (a .ids .now) (a .shared .now) (a .sizes .now) in
+    let text = foundText (a .rows) (a .touches) (a .p) (a .q) (asColumns (a .ids .now) (a .shared .now) (a .sizes .now)) in
+    let n = length-found (a .rows) (a .touches) (a .p) (a .q) (asColumns (a .ids .now) (a .shared .now) (a .sizes .now)) in
     let h = c .if1 .taken in
     (fitting-none text (length (a .out .now)) (omega arith), fitted-none text (a .out .now) (omega arith))
 
@@ -67,7 +68,7 @@ returns-2 c =
     let h = c .before .before .before .before .before .before .before .before .if1 .left in
     let y = c .before .before .before .before .before .before .put-rows in
     let r = y .last .1 .1 .1 .1 .0 in
-    let e = length-rows (a .ids .now) (a .shared .now) (a .sizes .now) (a .rows) in
+    let e = length-rows (asColumns (a .ids .now) (a .shared .now) (a .sizes .now)) (a .rows) in
     let l : length r ≡ 11 * a .rows = ap length (y .ensures) ∙ e in
     let k : (11 * a .rows + 23) - 11 * a .rows ≡ 23 = omega arith in
     let u = r ++ drop (11 * a .rows) (a .out .now) in
@@ -76,11 +77,11 @@ returns-2 c =
     let x = length-drop (11 * a .rows) u in
     let t = length-take-le ((11 * a .rows + 23) - 11 * a .rows) (drop (11 * a .rows) u) (omega arith) in
     let z = c .before .before .write-end in (
-      fitting-all (foundText (a .rows) (a .touches) (a .p) (a .q) (a .ids .now) (a .shared .now) (a .sizes .now)) (length (a .out .now)) (11 * a .rows + 23) (length-found (a .rows) (a .touches) (a .p) (a .q) (a .ids .now) (a .shared .now) (a .sizes .now)) (omega arith),
+      fitting-all (foundText (a .rows) (a .touches) (a .p) (a .q) (asColumns (a .ids .now) (a .shared .now) (a .sizes .now))) (length (a .out .now)) (11 * a .rows + 23) (length-found (a .rows) (a .touches) (a .p) (a .q) (asColumns (a .ids .now) (a .shared .now) (a .sizes .now))) (omega arith),
       put-end r (a .out .now) (z .last .0) (endLine (a .rows) (a .touches) (a .p) (a .q)) (11 * a .rows) ((11 * a .rows + 23) - 11 * a .rows) l k
           (z .ensures .1 ∙ end-exact (a .rows) (a .touches) (a .p) (a .q) (take ((11 * a .rows + 23) - 11 * a .rows) (drop (11 * a .rows) u)) (t ∙ k))
           ∙ ap (λ (s : List ℕ). (s ++ endLine (a .rows) (a .touches) (a .p) (a .q)) ++ drop (11 * a .rows + 23) (a .out .now)) (y .ensures)
-          ∙ fitted-found (a .rows) (a .touches) (a .p) (a .q) (a .ids .now) (a .shared .now) (a .sizes .now) (a .out .now) (omega arith),
+          ∙ fitted-found (a .rows) (a .touches) (a .p) (a .q) (asColumns (a .ids .now) (a .shared .now) (a .sizes .now)) (a .out .now) (omega arith),
     )
 
 pub put-found-spec : {M : Type 1} → statement M

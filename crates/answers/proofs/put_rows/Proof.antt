@@ -5,13 +5,14 @@ use Prim.Native.Nat.{ℕ, _+_, _-_, _*_, _≤_, _<_}
 use native.Mathlib.Omega.{arith}
 use borrow.Author.Needs.{needs}
 use lib.ListN.{length, getD, take, drop, length-append, length-drop}
-use Rattle.answers.specs.Output.{rowLine, rowsText}
+use Rattle.search.specs.Answers.{asColumns}
+use Rattle.answers.specs.Output.{rowText, rowsText}
 use Rattle.answers.proofs.Text.{length-rows, rows-none, rows-more, rows-all}
 use Rattle.answers.proofs.put_rows.Statement.{statement}
 use Rattle.answers.proofs.put_rows.Tie as tie
 
 abbrev Inv-loop : tie.InvT-loop
-Inv-loop ids shared sizes n out₀ k₀ out k = (k ≤ n) × (out ≡ rowsText ids shared sizes k ++ drop (11 * k) out₀)
+Inv-loop ids shared sizes n out₀ k₀ out k = (k ≤ n) × (out ≡ rowsText (asColumns ids shared sizes) k ++ drop (11 * k) out₀)
 
 abbrev μ-loop : tie.MeasureT-loop
 μ-loop ids shared sizes n out₀ k₀ out k = n - k
@@ -19,7 +20,7 @@ abbrev μ-loop : tie.MeasureT-loop
 loop-holds : tie.Need-loop-holds Inv-loop μ-loop
 loop-holds c =
     let a = c .before .before .before .before .args in
-    (omega arith, rows-none (a .ids .now) (a .shared .now) (a .sizes .now) (a .out .now))
+    (omega arith, rows-none (asColumns (a .ids .now) (a .shared .now) (a .sizes .now)) (a .out .now))
 
 mul-put-row : tie.Need-mul-put-row Inv-loop μ-loop
 mul-put-row c = search needs
@@ -58,8 +59,8 @@ put-row-requires c κs =
     let few = p .few in
     let n = b .pre .1 in
     let e = ap length (l .inv .1) in
-    let f = length-append (rowsText (a .ids .now) (a .shared .now) (a .sizes .now) (l .k)) (drop (11 * l .k) (a .out .now)) in
-    let g = length-rows (a .ids .now) (a .shared .now) (a .sizes .now) (l .k) in
+    let f = length-append (rowsText (asColumns (a .ids .now) (a .shared .now) (a .sizes .now)) (l .k)) (drop (11 * l .k) (a .out .now)) in
+    let g = length-rows (asColumns (a .ids .now) (a .shared .now) (a .sizes .now)) (l .k) in
     let h = length-drop (11 * l .k) (a .out .now) in
     (p .id (l .k) t, p .share (l .k) t, p .size (l .k) t, omega arith, omega arith)
 
@@ -82,11 +83,11 @@ loop-again c =
     let t = c .before .before .before .before .before .before .before .loop-test .taken in
     let n = b .pre .1 in
     let k = l .k in
-    let line = rowLine (getD (a .ids .now) k 0) (getD (a .shared .now) k 0) (getD (a .sizes .now) k 0) in (
+    let line = rowText (asColumns (a .ids .now) (a .shared .now) (a .sizes .now)) k in (
       omega arith,
       c .before .before .put-row .ensures
           ∙ ap (λ (s : List ℕ). take (11 * k) s ++ (line ++ drop (11 * k + 11) s)) (l .inv .1)
-          ∙ rows-more (a .ids .now) (a .shared .now) (a .sizes .now) (a .out .now) k (omega arith),
+          ∙ rows-more (asColumns (a .ids .now) (a .shared .now) (a .sizes .now)) (a .out .now) k (omega arith),
     )
 
 same-length : tie.Need-same-length Inv-loop μ-loop
@@ -97,8 +98,8 @@ same-length c =
     let n = b .pre .1 in
     let i = l .inv .0 in
     let e = ap length (l .inv .1) in
-    let f = length-append (rowsText (a .ids .now) (a .shared .now) (a .sizes .now) (l .k)) (drop (11 * l .k) (a .out .now)) in
-    let g = length-rows (a .ids .now) (a .shared .now) (a .sizes .now) (l .k) in
+    let f = length-append (rowsText (asColumns (a .ids .now) (a .shared .now) (a .sizes .now)) (l .k)) (drop (11 * l .k) (a .out .now)) in
+    let g = length-rows (asColumns (a .ids .now) (a .shared .now) (a .sizes .now)) (l .k) in
     let h = length-drop (11 * l .k) (a .out .now) in
     let r : length (l .out) ≡ length (a .out .now) = omega arith in
     r
@@ -112,8 +113,8 @@ returns c =
     let i = l .inv .0 in
     let k : l .k ≡ a .n = omega arith in
     l .inv .1
-    ∙ ap (λ (m : ℕ). rowsText (a .ids .now) (a .shared .now) (a .sizes .now) m ++ drop (11 * m) (a .out .now)) k
-    ∙ rows-all (a .ids .now) (a .shared .now) (a .sizes .now) (a .out .now) (a .n) (b .pre .1)
+    ∙ ap (λ (m : ℕ). rowsText (asColumns (a .ids .now) (a .shared .now) (a .sizes .now)) m ++ drop (11 * m) (a .out .now)) k
+    ∙ rows-all (asColumns (a .ids .now) (a .shared .now) (a .sizes .now)) (a .out .now) (a .n) (b .pre .1)
 
 pub put-rows-spec : {M : Type 1} → statement M
 put-rows-spec =

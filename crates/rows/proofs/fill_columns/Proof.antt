@@ -48,8 +48,7 @@ returns c =
     let long-shared = length-cut n (b .args .room) _ (b .args .shared .now) e (omega (arith, b .pre .1)) in
     let long-sizes = length-cut n (b .args .room) _ (b .args .sizes .now) e (omega (arith, b .pre .2)) in
     filled (b .args .query .now) (b .args .measure) (b .args .p) (b .args .q) (b .args .allowance) (b .args .words .now) (b .args .room) n (f .result)
-    _ _ _ _ _ _ _ _ _ e (f .ensures .0) (f .ensures .1 .0) (f .ensures .1 .1 .0) (f .ensures .1 .1 .1)
-    (search needs) (search needs) (search needs)
+    _ _ _ e (f .ensures) long-ids long-shared long-sizes
 
 pub fill-columns-spec : {M : Type 1} → statement M
 fill-columns-spec =

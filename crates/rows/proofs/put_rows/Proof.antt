@@ -50,6 +50,7 @@ use denote.Triple.Table.{entered}
 use denote.Triple.Walked.{says, needs, Stays, stay-none, stay-slice, stay-none-slice, walkOf, AllGo, goes-none, goes-slice, goes-none-slice, Walks, ends-at, walked, walk-meets}
 use Rattle.laws.proofs.Order.{le-or-lt}
 use Rattle.rows.specs.declared.Row.{Row}
+use Rattle.search.specs.Answers.{asColumns}
 use Rattle.rows.specs.Rows.{rowAt}
 use Rattle.rows.proofs.Lists.{noRow, rowsOver, rows-over-nil, rows-over-step, length-rows-over}
 use Rattle.rows.proofs.Slices.{ref, opens-mut, shuts-mut, opens-shr}
@@ -150,10 +151,10 @@ module _ {M : Type 1} (𝓤 : URA M) (H : Heap 𝓤) (A : Atoms 𝓤) (W : Given
 
   -- row k, and the list once k rows are written
   abbrev r : ℕ → Row
-  r k = rowAt is ss zs k
+  r k = rowAt (asColumns is ss zs) k
 
   abbrev now : ℕ → List Row
-  now k = rowsOver (rowAt is ss zs) k rs
+  now k = rowsOver (rowAt (asColumns is ss zs)) k rs
 
   -- what the parameters own
   abbrev own-ids : Fml
@@ -184,7 +185,7 @@ module _ {M : Type 1} (𝓤 : URA M) (H : Heap 𝓤) (A : Atoms 𝓤) (W : Given
   exits : n ≤ length rs → ent 𝓤 (⋆ 𝓤 H A Last) (Post vunit)
   exits h =
       qed W Last ∵
-      suffices ! _ (ends-at 𝓤 H A put-rows.ended stayed (put-rows.clauses 𝓤 H A mem run) W bound vunit tt (tt, (tt, (tt, (tt, (now n, tt))))) (tt, (tt, (tt, (tt, (length-rows-over (rowAt is ss zs) n rs h, tt)))))) $ says ! refl $
+      suffices ! _ (ends-at 𝓤 H A put-rows.ended stayed (put-rows.clauses 𝓤 H A mem run) W bound vunit tt (tt, (tt, (tt, (tt, (now n, tt))))) (tt, (tt, (tt, (tt, (length-rows-over (rowAt (asColumns is ss zs)) n rs h, tt)))))) $ says ! refl $
       nothing ! $ move ! (4 ∷ 0 ∷ []) $ join ! $ move ! (3 ∷ 0 ∷ []) $ join ! $ move ! (2 ∷ 0 ∷ []) $ join ! $ move ! (1 ∷ 0 ∷ []) $ join ! $ frame ! $
       nothing ! $ move ! (5 ∷ 0 ∷ []) $ fjoin ! $ move ! (4 ∷ 0 ∷ []) $ fjoin ! $ move ! (3 ∷ 0 ∷ []) $ fjoin ! $ move ! (2 ∷ 0 ∷ []) $ fjoin ! $ move ! (1 ∷ 0 ∷ []) $ fjoin ! $ frame ! $
       feqI ! (List Val) (vunit ∷ []) (vunit ∷ []) refl $ done !
@@ -272,7 +273,7 @@ module _ {M : Type 1} (𝓤 : URA M) (H : Heap 𝓤) (A : Atoms 𝓤) (W : Given
         move ! (1 ∷ []) $ drop ! $
         owned ! row-type.the-row (Is row-type.the-row) (Fields.makes row-type.the-type row-laws.the-plain 𝓤 H A) (r k) _ (made (r k) (g₁ .1) (g₂ .1) (g₃ .1)) $ move ! (1 ∷ 0 ∷ []) $
         elem-put ! row-type.the-row fullShare (now k) k (r k) (machine (r k) ∷ []) b₄ o₄ k₄ $
-        rewrite ! 0 (λ (l : List Row). ‵ (row row-type.the-row fullShare l b₄ o₄)) (rows-over-step (rowAt is ss zs) k rs k-in) refl $
+        rewrite ! 0 (λ (l : List Row). ‵ (row row-type.the-row fullShare l b₄ o₄)) (rows-over-step (rowAt (asColumns is ss zs)) k rs k-in) refl $
         -- [rows; k; ids; shared; sizes; _1 ..]
         assigns-last ! (bin ! (load ! (from ! (stop !)) (look ! 1 refl)) (lit ! tt) (record { fits = next k n small fits })) (from ! (stop !)) (store ! 1 refl (tt, record { fits = next k n small fits })) $
         forget ! 10 refl $ forget ! 11 refl $ forget ! 12 refl $ forget ! 13 refl $ forget ! 14 refl $ forget ! 15 refl $ forget ! 16 refl $ forget ! 17 refl $ forget ! 18 refl $ forget ! 19 refl $ forget ! 20 refl $ forget ! 21 refl $ forget ! 22 refl $
@@ -292,7 +293,7 @@ module _ {M : Type 1} (𝓤 : URA M) (H : Heap 𝓤) (A : Atoms 𝓤) (W : Given
         k-in = below k n (length rs) small in₄
 
         k₄ : k < length (now k)
-        k₄ = subst (λ (m : ℕ). k < m) (sym (length-rows-over (rowAt is ss zs) k rs (let h : k ≤ length rs = omega (arith, k-in) in h))) k-in
+        k₄ = subst (λ (m : ℕ). k < m) (sym (length-rows-over (rowAt (asColumns is ss zs)) k rs (let h : k ≤ length rs = omega (arith, k-in) in h))) k-in
 
         f₁ : k * 4 < 2 ^ 64
         f₁ = bytes-4 k (length is) k₁ (room₁ .1)
@@ -323,7 +324,7 @@ module _ {M : Type 1} (𝓤 : URA M) (H : Heap 𝓤) (A : Atoms 𝓤) (W : Given
         -- [κ₁'s; k; shared; sizes; rows; _1 .. _0 at 23; own-ids; κ₂'s borrow at 25; ..]
         move ! (2 ∷ 25 ∷ []) $ shuts-slice ! tt u32 s₂ ss b₂ o₂ $
         move ! (3 ∷ 26 ∷ []) $ shuts-slice ! tt u32 s₃ zs b₃ o₃ $
-        move ! (4 ∷ 27 ∷ 28 ∷ 29 ∷ []) $ shuts-mut ! tt row-type.the-row (named 3) b₄ o₄ rs (now n) (length-rows-over (rowAt is ss zs) n rs in₄) room₄ $
+        move ! (4 ∷ 27 ∷ 28 ∷ 29 ∷ []) $ shuts-mut ! tt row-type.the-row (named 3) b₄ o₄ rs (now n) (length-rows-over (rowAt (asColumns is ss zs)) n rs in₄) room₄ $
         -- [rows; κ₄'s; κ₃'s; κ₂'s; κ₁'s; k; _1 .. _5; _7; room for _8 .. _19; _0; ids; shared; sizes; n; that each local dies]
         returns ! (look ! 24 refl) $ forget ! 5 refl $ forget ! 6 refl $ forget ! 7 refl $ forget ! 8 refl $ forget ! 9 refl $ forget ! 10 refl $ forget ! 11 refl $ forget ! 24 refl $
         move ! (24 ∷ 29 ∷ []) $ free1 ! $ move ! (6 ∷ 28 ∷ []) $ free1 ! $ move ! (6 ∷ 27 ∷ []) $ free1 ! $ move ! (6 ∷ 26 ∷ []) $ free1 ! $ move ! (6 ∷ 25 ∷ []) $ free1 ! $ move ! (6 ∷ 24 ∷ []) $ free1 ! $
@@ -382,7 +383,7 @@ module _ {M : Type 1} (𝓤 : URA M) (H : Heap 𝓤) (A : Atoms 𝓤) (W : Given
       -- [shared: three; ids: three; rows: four; true; κ₃'s; true; n; sizes; the locals from 15]
       move ! (14 ∷ 11 ∷ []) $ opens-shr ! tt u32 (Is u32) (shows 𝓤 H A u32) (uint-vals w32) (uint-tells w32) (uint-copy 𝓤 H A W w32) (named 2) b₃ o₃ zs (λ s₃.
       -- [sizes: three; shared: three; ids: three; rows: four; true; true; n; the locals from 16]
-      rewrite ! 9 (λ (l : List Row). ‵ (row row-type.the-row fullShare l b₄ o₄)) (rows-over-nil (rowAt is ss zs) rs) refl $
+      rewrite ! 9 (λ (l : List Row). ‵ (row row-type.the-row fullShare l b₄ o₄)) (rows-over-nil (rowAt (asColumns is ss zs)) rs) refl $
       keep ! (42 ∷ 6 ∷ 3 ∷ 0 ∷ 9 ∷ 52 ∷ 50 ∷ 48 ∷ 46 ∷ 44 ∷ 40 ∷ 38 ∷ 36 ∷ 34 ∷ 32 ∷ 30 ∷ 28 ∷ 26 ∷ 24 ∷ 22 ∷ 20 ∷ 18 ∷ 16
       ∷ 54 ∷ 7 ∷ 8 ∷ 4 ∷ 5 ∷ 1 ∷ 2 ∷ 10 ∷ 11 ∷ 12 ∷ 15 ∷ 55 ∷ 53 ∷ 51 ∷ 49 ∷ 47 ∷ 45 ∷ 43 ∷ 41 ∷ 39 ∷ 37 ∷ 35 ∷ 33 ∷ 31 ∷ 29 ∷ 27 ∷ 25 ∷ 23 ∷ 21 ∷ 19 ∷ 17 ∷ []) $
       by ! (loops 𝓣 room₁ room₂ room₃ fits room₄ in₁ in₂ in₃ in₄ s₁ s₂ s₃ l₀ l₁ l₂ l₃ l₄ l₅ l₆ l₇ l₈ l₉ l₁₀ l₁₁ l₁₂ l₁₃ l₁₄ l₁₅ l₁₆ l₁₇ l₁₈ l₁₉))))))))))))))))))))))))

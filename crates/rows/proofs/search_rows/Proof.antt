@@ -43,12 +43,12 @@ use denote.Triple.Walked.{says, walkOf, Walks, ends-at, walked, walk-meets}
 use Rattle.names.specs.Features.{featuresOf}
 use Rattle.index.specs.Good.{mostNames}
 use Rattle.search.specs.Method.{answersOf}
-use Rattle.search.specs.Answers.{searchOf, givenBy, rowsIn}
+use Rattle.search.specs.Answers.{searchOf, rowsIn, asColumns}
 use Rattle.search.specs.declared.Answer.{Answer}
 use Rattle.search.proofs.Answer as answer-type
 use Rattle.search.proofs.Answer.Laws as answer-laws
 use Rattle.rows.specs.declared.Row.{Row}
-use Rattle.rows.specs.Rows.{rowAt, rowsOf, overRows, Filled}
+use Rattle.rows.specs.Rows.{rowAt, rowsAfter, Filled}
 use Rattle.rows.proofs.Lists.{rowsOver, rows-given}
 use Rattle.rows.proofs.Slices.{ref}
 use Rattle.rows.proofs.Arrays.{zeros, Nums, begun, begun-typed, lends-array, array-back, shows-array, array-freed}
@@ -264,10 +264,10 @@ module _ {M : Type 1} (𝓤 : URA M) (H : Heap 𝓤) (A : Atoms 𝓤) (W : Given
 
   -- the rows once `put_rows` has written
   abbrev written : FillLast → Answer → List Row
-  written ws r = rowsOver (rowAt (is ws) (ss ws) (zs ws)) (rowsIn r) rs
+  written ws r = rowsOver (rowAt (asColumns (is ws) (ss ws) (zs ws))) (rowsIn r) rs
 
   -- an answer's rows are at most the names, and at most the rows lent
-  module _ (ws : FillLast) (r : Answer) (filled : Filled s m p q allowance w (length rs) r (is ws) (ss ws) (zs ws)) where
+  module _ (ws : FillLast) (r : Answer) (filled : Filled s m p q allowance w (length rs) r (asColumns (is ws) (ss ws) (zs ws))) where
     fits-row : rowsIn r < 2 ^ 64
     fits-row = let a = filled .few in omega arith
 
@@ -281,7 +281,7 @@ module _ {M : Type 1} (𝓤 : URA M) (H : Heap 𝓤) (A : Atoms 𝓤) (W : Given
   -- ---- the end
 
   abbrev Said : Answer → List Row → Type 0
-  Said r us = (r ≡ searchOf s m p q allowance w (length rs)) × (us ≡ overRows (rowsOf w (featuresOf s) (givenBy r (answersOf w m p q (featuresOf s)))) rs)
+  Said r us = (r ≡ searchOf s m p q allowance w (length rs)) × (us ≡ rowsAfter s m p q allowance w rs)
 
   abbrev Last : List Row → List (Item 𝓤)
   Last us =
@@ -332,8 +332,8 @@ module _ {M : Type 1} (𝓤 : URA M) (H : Heap 𝓤) (A : Atoms 𝓤) (W : Given
         use1 W (raw (Fill 𝓤 H A mem run .pre (to-fill ν₁ ν₂ ν₃ δ₁ δ₂ δ₃ l₈ l₉ l₁₀))) (asks-fill ν₁ ν₂ ν₃ δ₁ δ₂ δ₃ l₈ l₉ l₁₀) $
         calls-at ! fm (Fill 𝓤 H A mem run) fills (to-fill ν₁ ν₂ ν₃ δ₁ δ₂ δ₃ l₈ l₉ l₁₀) (and-then ! (load ! (from ! (stop !)) (look ! 63 refl)) (and-then ! (load ! (from ! (stop !)) (look ! 61 refl)) (and-then ! (load ! (from ! (stop !)) (look ! 59 refl)) (and-then ! (load ! (from ! (stop !)) (look ! 57 refl)) (and-then ! (load ! (from ! (stop !)) (look ! 55 refl)) (and-then ! (load ! (from ! (stop !)) (look ! 53 refl)) (and-then ! (load ! (from ! (stop !)) (look ! 44 refl)) (and-then ! (load ! (from ! (stop !)) (look ! 40 refl)) (and-then ! (load ! (from ! (stop !)) (look ! 36 refl)) (and-then ! (load ! (from ! (stop !)) (look ! 32 refl)) (no-more !))))))))))) (λ v.
         use1 W (later (some (λ (r : Answer). (((‵ (flft κ₁ q₁) ⊛ ‵ (flft κ₂ q₂) ⊛ ‵ (flft (ν₁ ∷ []) fullShare) ⊛ ‵ (flft (ν₂ ∷ []) fullShare) ⊛ ‵ (flft (ν₃ ∷ []) fullShare) ⊛ ‵ ftrue) ⊛ ‵ (answer-type.the-row .own r (v ∷ []))) ⊛ raw (ensured 𝓤 H A fill-columns.ended (fill-columns.clauses 𝓤 H A mem run) (fill-κs ν₁ ν₂ ν₃) (fill-args δ₁ δ₂ δ₃ l₈ l₉ l₁₀) tt r))))) (id⊢ 𝓤 _) $ await ! tt $ pick ! (λ r.
-        split ! $ move ! (1 ∷ []) $ use1 W (some (λ (ws : FillLast). ‵ (lasts fill-columns.ended (fill-κs ν₁ ν₂ ν₃) (fill-args δ₁ δ₂ δ₃ l₈ l₉ l₁₀) ws) ⊛ raw (fact 𝓤 (Filled s m p q allowance w (length rs) r (ws .1 .1 .1 .1 .1 .1 .1 .0) (ws .1 .1 .1 .1 .1 .1 .1 .1 .0) (ws .1 .1 .1 .1 .1 .1 .1 .1 .1 .0))))) (id⊢ 𝓤 _) $ pick ! (λ ws.
-        split ! $ move ! (1 ∷ []) $ heard ! (Filled s m p q allowance w (length rs) r (is ws) (ss ws) (zs ws)) (λ filled.
+        split ! $ move ! (1 ∷ []) $ use1 W (some (λ (ws : FillLast). ‵ (lasts fill-columns.ended (fill-κs ν₁ ν₂ ν₃) (fill-args δ₁ δ₂ δ₃ l₈ l₉ l₁₀) ws) ⊛ raw (fact 𝓤 (Filled s m p q allowance w (length rs) r (asColumns (ws .1 .1 .1 .1 .1 .1 .1 .0) (ws .1 .1 .1 .1 .1 .1 .1 .1 .0) (ws .1 .1 .1 .1 .1 .1 .1 .1 .1 .0)))))) (id⊢ 𝓤 _) $ pick ! (λ ws.
+        split ! $ move ! (1 ∷ []) $ heard ! (Filled s m p q allowance w (length rs) r (asColumns (is ws) (ss ws) (zs ws))) (λ filled.
         -- the columns' last lists, each as long as it was
         fsplit ! $ drop ! $ fsplit ! $ drop ! $ fsplit ! $ drop ! $ fsplit ! $ drop ! $ fsplit ! $ drop ! $ fsplit ! $ drop ! $ fsplit ! $ drop ! $ fsplit ! $ fsplit ! $ move ! (1 ∷ []) $ feqL ! (λ e₁. move ! (1 ∷ []) $ fsplit ! $ fsplit ! $ move ! (1 ∷ []) $ feqL ! (λ e₂. move ! (1 ∷ []) $ fsplit ! $ fsplit ! $ move ! (1 ∷ []) $ feqL ! (λ e₃.
         -- the answer lands in _11
@@ -384,7 +384,7 @@ module _ {M : Type 1} (𝓤 : URA M) (H : Heap 𝓤) (A : Atoms 𝓤) (W : Given
         move ! (46 ∷ 47 ∷ []) $ free1 ! $ move ! (44 ∷ 45 ∷ []) $ free1 ! $ move ! (42 ∷ 43 ∷ []) $ free1 ! $ move ! (40 ∷ 41 ∷ []) $ free1 ! $ move ! (38 ∷ 39 ∷ []) $ free1 ! $ move ! (36 ∷ 37 ∷ []) $ free1 ! $ move ! (34 ∷ 35 ∷ []) $ free1 ! $
         move ! (32 ∷ 33 ∷ []) $ free1 ! $ move ! (30 ∷ 31 ∷ []) $ free1 ! $ move ! (28 ∷ 29 ∷ []) $ free1 ! $ move ! (26 ∷ 27 ∷ []) $ free1 ! $ move ! (24 ∷ 25 ∷ []) $ free1 ! $ move ! (22 ∷ 23 ∷ []) $ free1 ! $ move ! (20 ∷ 21 ∷ []) $ free1 ! $
         free0 ! $
-        keep ! (9 ∷ 8 ∷ 0 ∷ 13 ∷ 19 ∷ 18 ∷ 17 ∷ 16 ∷ 12 ∷ 3 ∷ []) $ by ! (exits (us .1 .1 .1 .1 .0) r v len is-r (filled .answer, said ∙ rows-given (rowAt (is ws) (ss ws) (zs ws)) (rowsIn r) rs _ (filled .rows)))))))))))))))))))))))))))))))))))))))))))))))))))))))
+        keep ! (9 ∷ 8 ∷ 0 ∷ 13 ∷ 19 ∷ 18 ∷ 17 ∷ 16 ∷ 12 ∷ 3 ∷ []) $ by ! (exits (us .1 .1 .1 .1 .0) r v len is-r (filled .answer, said ∙ rows-given (rowAt (asColumns (is ws) (ss ws) (zs ws))) (rowsIn r) rs _ (filled .rows)))))))))))))))))))))))))))))))))))))))))))))))))))))))
 
 module _ {M : Type 1} (𝓤 : URA M) (H : Heap 𝓤) (A : Atoms 𝓤) (W : Given 𝓤 H A) (mem : Memory → SProp 𝓤) (run : Routine → Fun 𝓤) where
   walks : (C : Calls 𝓤 H) (Λ : Loops 𝓤 H) → FmC 𝓤 H (W .laws) C → Triple 𝓤 (C #rows·fill-columns) (Fill 𝓤 H A mem run) → Triple 𝓤 (C #rows·rows-in) (Count 𝓤 H A mem run) → Triple 𝓤 (C #rows·put-rows) (Put 𝓤 H A mem run)

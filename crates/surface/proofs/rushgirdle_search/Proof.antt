@@ -1,6 +1,6 @@
 -- `rushgirdle_search` meets its contract: the answer is the layer's, set out; the columns are the layer's.
-use Rattle.search.specs.Answers.{idColumn, sharedColumn, sizeColumn}
-use Rattle.surface.proofs.Columns.{flat-search}
+use mathlib.Core.Path.{ap, _∙_}
+use Rattle.surface.specs.Flat.{searchAnswer}
 use borrow.Author.Needs.{needs}
 use Rattle.surface.proofs.rushgirdle_search.Statement.{statement}
 use Rattle.surface.proofs.rushgirdle_search.Tie as tie
@@ -22,8 +22,8 @@ same-length-3 c = search needs
 
 returns : tie.Need-returns
 returns c =
-    let h = flat-search (idColumn _) (sharedColumn _ _) (sizeColumn _) _ _ _ _ _ _ _ (c .flat .ensures) (c .before .before .before .before .before .before .before .search .ensures) in
-    (h .0, (h .1 .0, (h .1 .1 .0, h .1 .1 .1)))
+    let s = c .before .before .before .before .before .before .before .search .ensures in
+    (c .flat .ensures ∙ ap searchAnswer (s .answer), s .columns)
 
 pub rushgirdle-search-spec : {M : Type 1} → statement M
 rushgirdle-search-spec =

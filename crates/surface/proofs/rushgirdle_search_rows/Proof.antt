@@ -1,7 +1,7 @@
 -- `rushgirdle_search_rows` meets its contract: a walk of its code, by hand, since it has a slice of structs. Everything that it is lent goes on to
 -- `search_rows` of the crate `rows`, the rows for good, and the answer to `flat`. Of both the proof knows only that they meet their contracts.
 -- Assumes nothing.
-use mathlib.Core.Path.{_≡_, refl}
+use mathlib.Core.Path.{_≡_, refl, ap, _∙_}
 use mathlib.Core.List.{[], _∷_, List}
 use Prim.Native.Nat.{ℕ, _<_, _^_}
 use lib.ListN.{length}
@@ -37,14 +37,12 @@ use denote.Triple.Entry.{onEntry}
 use denote.Triple.Spec.{Meets, tripleOf}
 use denote.Triple.Table.{entered, cited}
 use denote.Triple.Walked.{says, walkOf, Walks, ends-at, walked, walk-meets}
-use Rattle.names.specs.Features.{featuresOf}
-use Rattle.search.specs.Method.{answersOf}
-use Rattle.search.specs.Answers.{searchOf, givenBy}
+use Rattle.search.specs.Answers.{searchOf}
 use Rattle.search.specs.declared.Answer.{Answer}
 use Rattle.search.proofs.Answer as answer-type
 use Rattle.search.proofs.Answer.Laws as answer-laws
 use Rattle.rows.specs.declared.Row.{Row}
-use Rattle.rows.specs.Rows.{rowsOf, overRows}
+use Rattle.rows.specs.Rows.{rowsAfter}
 use Rattle.rows.proofs.Passed.{stayed, goes, spells, tells}
 use Rattle.rows.proofs.Row as row-type
 use Rattle.rows.proofs.search_rows as search-rows
@@ -53,7 +51,6 @@ use Rattle.rows.proofs.search_rows.Symbol.{name as #rows·search-rows}
 use Rattle.rows.proofs.search_rows.Met as search-rows-thm
 use Rattle.surface.specs.declared.SearchAnswer.{SearchAnswer}
 use Rattle.surface.specs.Flat.{searchAnswer}
-use Rattle.surface.proofs.Columns.{flat-rows}
 use Rattle.surface.proofs.SearchAnswer as flat-type
 use Rattle.surface.proofs.SearchAnswer.Laws as flat-laws
 use Rattle.surface.proofs.flat as flat
@@ -138,14 +135,11 @@ module _ {M : Type 1} (𝓤 : URA M) (H : Heap 𝓤) (A : Atoms 𝓤) (W : Given
   abbrev answer : Answer
   answer = searchOf (query .now) m p q allowance (words .now) (length (rows .now))
 
-  abbrev places : List ℕ
-  places = answersOf (words .now) m p q (featuresOf (query .now))
-
-  abbrev given : List ℕ → List Row
-  given = rowsOf (words .now) (featuresOf (query .now))
+  abbrev left : List Row
+  left = rowsAfter (query .now) m p q allowance (words .now) (rows .now)
 
   abbrev Searched : Answer → List Row → Type 0
-  Searched r us = (r ≡ answer) × (us ≡ overRows (given (givenBy r places)) (rows .now))
+  Searched r us = (r ≡ answer) × (us ≡ left)
 
   -- ---- the call of `flat`
 
@@ -164,7 +158,7 @@ module _ {M : Type 1} (𝓤 : URA M) (H : Heap 𝓤) (A : Atoms 𝓤) (W : Given
   -- ---- the end
 
   abbrev Said : SearchAnswer → List Row → Type 0
-  Said x us = (x ≡ searchAnswer answer) × (us ≡ overRows (given (givenBy answer places)) (rows .now))
+  Said x us = (x ≡ searchAnswer answer) × (us ≡ left)
 
   abbrev Last : List Row → SearchAnswer → Val → List (Item 𝓤)
   Last us x v =
@@ -217,7 +211,7 @@ module _ {M : Type 1} (𝓤 : URA M) (H : Heap 𝓤) (A : Atoms 𝓤) (W : Given
         forget ! 32 refl $ forget ! 30 refl $ forget ! 28 refl $ forget ! 26 refl $ forget ! 24 refl $ forget ! 22 refl $ forget ! 20 refl $ forget ! 18 refl $ forget ! 16 refl $ forget ! 14 refl $ forget ! 12 refl $
         move ! (32 ∷ 33 ∷ []) $ free1 ! $ move ! (30 ∷ 31 ∷ []) $ free1 ! $ move ! (28 ∷ 29 ∷ []) $ free1 ! $ move ! (26 ∷ 27 ∷ []) $ free1 ! $ move ! (24 ∷ 25 ∷ []) $ free1 ! $ move ! (22 ∷ 23 ∷ []) $ free1 ! $
         move ! (20 ∷ 21 ∷ []) $ free1 ! $ move ! (18 ∷ 19 ∷ []) $ free1 ! $ move ! (16 ∷ 17 ∷ []) $ free1 ! $ move ! (14 ∷ 15 ∷ []) $ free1 ! $ move ! (12 ∷ 13 ∷ []) $ free1 ! $ free0 ! $
-        keep ! (2 ∷ 6 ∷ 11 ∷ 10 ∷ 9 ∷ 8 ∷ 5 ∷ 3 ∷ 0 ∷ []) $ by ! (exits (ws .1 .1 .1 .1 .1 .1 .0) x u len (flat-rows given places (rows .now) _ e found)))))))))))))))))))))))
+        keep ! (2 ∷ 6 ∷ 11 ∷ 10 ∷ 9 ∷ 8 ∷ 5 ∷ 3 ∷ 0 ∷ []) $ by ! (exits (ws .1 .1 .1 .1 .1 .1 .0) x u len (e ∙ ap searchAnswer (found .0), found .1)))))))))))))))))))))))
 
 module _ {M : Type 1} (𝓤 : URA M) (H : Heap 𝓤) (A : Atoms 𝓤) (W : Given 𝓤 H A) (mem : Memory → SProp 𝓤) (run : Routine → Fun 𝓤) where
   walks : (C : Calls 𝓤 H) (Λ : Loops 𝓤 H) → FmC 𝓤 H (W .laws) C → Triple 𝓤 (C #rows·search-rows) (Search 𝓤 H A mem run) → Triple 𝓤 (C #surface·flat) (Flat 𝓤 H A mem run)
