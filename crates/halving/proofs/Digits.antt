@@ -1,4 +1,4 @@
--- Powers of two as the code makes them: by a shift, and from the count of leading zeros. Cited by the proofs of the halving searches.
+-- Powers of two as the code makes them: by a shift, and from the count of leading zeros. Cited by the proofs of the functions that make them.
 -- Assumes nothing.
 use mathlib.Core.Path.{_≡_, ap, _∙_}
 use mathlib.Core.Bool.{Bool, true, false, cond}

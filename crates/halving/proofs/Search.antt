@@ -1,11 +1,11 @@
--- What the halving search of a list needs: the ids below x come first in an ascending list, and x is there if it stands at its place.
+-- What the binary search needs: what is below x comes first, and x is in an ascending list if it stands at its place.
 -- Assumes nothing.
 use mathlib.Core.Path.{_≡_, refl, sym, ap, _∙_}
 use mathlib.Core.Logic.{⊎-elim}
-use mathlib.Core.Bool.{Bool, true, false, _&&_}
+use mathlib.Core.Bool.{Bool, true, false, cond, _&&_}
 use mathlib.Core.List.{List}
-use Prim.Native.Nat.{ℕ, _+_, _*_, _/_, _≤_, _<_}
-use native.Mathlib.Nat.{eq-or-lt-of-le}
+use Prim.Native.Nat.{ℕ, _*_, _≤_, _<_}
+use native.Mathlib.Nat.{eq-or-lt-of-le, zero-add, one-mul}
 use native.Mathlib.Omega.{arith}
 use lib.ListN.{length, getD}
 use lib.Dec.{ltb, eqb}
@@ -13,9 +13,10 @@ use borrow.Author.Tests.{lt-ltb, le-ltb, ltb-true, ltb-false, eqb-true, eqb-fals
 use Rattle.laws.specs.Lists.{member, Ascending, countOf}
 use Rattle.laws.proofs.Ascending.{ascending-at, member-getD, member-nowhere}
 use Rattle.laws.proofs.Halving.{Falling, falling-count, count-index, count-below-place}
-use Rattle.laws.proofs.Lists.{length-tabulate, getD-tabulate}
+use Rattle.laws.specs.Below.{countBelow}
+use Rattle.laws.proofs.Below.{sum-below-ext}
 use Rattle.laws.proofs.Order.{le-or-lt}
-use Rattle.halving.specs.Rows.{seconds}
+use Rattle.halving.specs.Column.{columnAt, Rising}
 
 -- whether the i-th of the list is below x
 abbrev pub belowAt : List ℕ → ℕ → ℕ → Bool
@@ -91,12 +92,43 @@ place-met l x i a h e =
     (λ (q : i < j). let u = ascending-at l a i j q m in le-ltb (getD l j 0) x (omega arith))
     (eq-or-lt-of-le k)))
 
--- ---- rows of four words
+-- ---- columns
 
-pub length-seconds : (rows : List ℕ) → length (seconds rows) ≡ length rows / 4
-unfolding seconds
-length-seconds rows = length-tabulate (λ (i : ℕ). getD rows (4 * i + 1) 0) (length rows / 4)
+-- what is below x comes first
+pub column-falls : (f : ℕ → ℕ) (n x : ℕ) → Rising f n → Falling (λ (i : ℕ). ltb (f i) x) n
+unfolding Rising
+column-falls f n x rises i j h m e =
+    let u = ltb-true (f j) x e in
+    let v = rises i j h m in
+    lt-ltb (f i) x (omega arith)
 
-pub second-at : (rows : List ℕ) (i : ℕ) → i < length rows / 4 → getD (seconds rows) i 0 ≡ getD rows (4 * i + 1) 0
-unfolding seconds
-second-at rows i h = getD-tabulate (λ (k : ℕ). getD rows (4 * k + 1) 0) (length rows / 4) i 0 h
+-- so those before the place are below x, and those from it on are not
+pub column-split : (f : ℕ → ℕ) (n x r : ℕ) → Rising f n → r ≡ countBelow n (λ (i : ℕ). ltb (f i) x)
+    → (r ≤ n) × ((i : ℕ) → i < r → f i < x) × ((i : ℕ) → r ≤ i → i < n → x ≤ f i)
+column-split f n x r rises e =
+    let s = falling-count (λ (i : ℕ). ltb (f i) x) n (column-falls f n x rises) in
+    let w = s .within in (
+      omega arith,
+      λ i h. ltb-true (f i) x (s .below i (omega arith)),
+      λ i h m. ltb-false (f i) x (s .above i (omega arith) m),
+    )
+
+-- a list is its own column of width 1
+pub column-list : (l : List ℕ) (i : ℕ) → columnAt l 0 1 i ≡ getD l i 0
+unfolding columnAt
+column-list l i = ap (λ (k : ℕ). getD l k 0) (zero-add (1 * i) ∙ one-mul i)
+
+pub ascending-rising : (l : List ℕ) → Ascending l → Rising (columnAt l 0 1) (length l)
+unfolding Rising
+ascending-rising l a i j h m =
+    rw (column-list l i, column-list l j)
+    (⊎-elim
+    (λ (p : i ≡ j). let e = ap (λ (k : ℕ). getD l k 0) p in omega arith)
+    (λ (p : i < j). let v = ascending-at l a i j p m in omega arith)
+    (eq-or-lt-of-le h))
+
+pub count-column : (l : List ℕ) (x : ℕ) → countBelow (length l) (λ (i : ℕ). ltb (columnAt l 0 1 i) x) ≡ countOf (λ (y : ℕ). ltb y x) l
+count-column l x =
+    sum-below-ext (length l) (λ (i : ℕ). cond (ltb (columnAt l 0 1 i) x) 1 0) (λ (i : ℕ). cond (ltb (getD l i 0) x) 1 0)
+    (λ i h. ap (λ (v : ℕ). cond (ltb v x) 1 0) (column-list l i))
+    ∙ sym (count-index (λ (y : ℕ). ltb y x) l)

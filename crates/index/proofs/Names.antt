@@ -1,4 +1,4 @@
--- Where a name stands, found by a halving search of the name words, or by a guess. Cited by the proofs of `name_place`, `name_for`
+-- Where a name stands, found by a binary search of the name words, or by a guess. Cited by the proofs of `name_place`, `name_for`
 -- and `name_near`.
 -- Assumes nothing.
 use mathlib.Core.Path.{_≡_, refl, sym, ap, subst, _∙_}

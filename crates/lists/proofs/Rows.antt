@@ -1,16 +1,16 @@
--- The rows of a good index: where their words and lists lie, and the row of a size and a feature by its key, where every word fits 32 bits.
--- Cited by the proofs of `rows_under`, `rows_of_size` and `place_among`.
+-- The rows of a good index: where their words and lists lie, and the row of a size and a feature.
+-- Cited by the proofs of `rows_of_size` and `place_among`.
 -- Assumes nothing.
 use mathlib.Core.Path.{_≡_, ap}
 use mathlib.Core.Logic.{⊎-elim}
 use mathlib.Core.List.{List}
-use Prim.Native.Nat.{ℕ, _+_, _-_, _≤_, _<_}
+use Prim.Native.Nat.{ℕ, _+_, _≤_, _<_}
 use native.Mathlib.Omega.{arith}
-use lib.ListN.{length, getD}
+use lib.ListN.{length}
 use borrow.Author.Tests.{lt-ltb, le-ltb}
 use Rattle.laws.proofs.Order.{le-or-lt}
-use Rattle.words.specs.Words.{rowCount, rowSize, rowFeature, rowPlace, rowLength, rowWidth, rowStart, listStart, postingsStart, keyOf, rowKey}
-use Rattle.words.proofs.Laws.{row-in, feature-word}
+use Rattle.words.specs.Words.{rowCount, rowSize, rowFeature, rowPlace, rowLength, rowWidth, rowStart, listStart, postingsStart}
+use Rattle.words.proofs.Laws.{row-in}
 use Rattle.index.specs.Good.{Good}
 use Rattle.index.proofs.Facts.{good-facts, list-within}
 use Rattle.lists.specs.Lists.{rowFor, spanAt, spanIn}
@@ -40,41 +40,16 @@ pub span-past : (w : List ℕ) (r : ℕ) → rowCount w ≤ r → spanAt w r ≡
 unfolding spanAt
 span-past w r l = rw (le-ltb r (rowCount w) l)
 
-module _ (w : List ℕ) (g : Good w) (fits : (i : ℕ) → getD w i 0 < 4294967296) where
-  -- a key is of one size and one feature
-  pub key-parts : (r y f : ℕ) → f < 4294967296 → rowKey w r ≡ keyOf y f → (rowSize w r ≡ y) × (rowFeature w r ≡ f)
-  unfolding rowKey
-  key-parts r y f l e =
-      let p = feature-word w fits r in
-      let a : rowSize w r ≡ y = omega arith in
-      (a, omega arith)
+-- a row of the size and the feature is the row sought
+pub span-met : (w : List ℕ) → Good w → (y f r : ℕ) → r < rowCount w → rowSize w r ≡ y → rowFeature w r ≡ f → spanIn w y f ≡ spanAt w r
+unfolding spanIn
+span-met w g y f r m p q = ap (spanAt w) (row-for w g y f r m p q)
 
-  -- a row whose key is met is the row sought
-  pub span-met : (y f r : ℕ) → f < 4294967296 → r < rowCount w → rowKey w r ≡ keyOf y f → spanIn w y f ≡ spanAt w r
-  unfolding spanIn
-  span-met y f r l m e = let p = key-parts r y f l e in ap (spanAt w) (row-for w g y f r m (p .0) (p .1))
-
-  -- where no row has the key there is no such row
-  pub missing : (y f : ℕ) → ((r : ℕ) → r < rowCount w → rowKey w r ≡ keyOf y f → ⊥) → spanIn w y f ≡ none
-  unfolding spanIn rowKey
-  missing y f n =
-      ⊎-elim
-      (λ (l : rowCount w ≤ rowFor w y f). span-past w (rowFor w y f) l)
-      (λ (l : rowFor w y f < rowCount w).
-      let p = row-found w y f l in
-      let a = p .0 in
-      let b = p .1 in
-      absurd (n (rowFor w y f) l (omega arith)))
-      (le-or-lt (rowCount w) (rowFor w y f))
-
-  -- a feature that doesn't fit a word is in no row
-  pub span-wide : (y f : ℕ) → 4294967295 < f → spanIn w y f ≡ none
-  unfolding spanIn
-  span-wide y f h =
-      ⊎-elim
-      (λ (l : rowCount w ≤ rowFor w y f). span-past w (rowFor w y f) l)
-      (λ (l : rowFor w y f < rowCount w).
-      let b = row-found w y f l .1 in
-      let c = feature-word w fits (rowFor w y f) in
-      absurd (omega arith))
-      (le-or-lt (rowCount w) (rowFor w y f))
+-- where no row has the size and the feature there is no such row
+pub missing : (w : List ℕ) (y f : ℕ) → ((r : ℕ) → r < rowCount w → rowSize w r ≡ y → rowFeature w r ≡ f → ⊥) → spanIn w y f ≡ none
+unfolding spanIn
+missing w y f n =
+    ⊎-elim
+    (λ (l : rowCount w ≤ rowFor w y f). span-past w (rowFor w y f) l)
+    (λ (l : rowFor w y f < rowCount w). let p = row-found w y f l in absurd (n (rowFor w y f) l (p .0) (p .1)))
+    (le-or-lt (rowCount w) (rowFor w y f))

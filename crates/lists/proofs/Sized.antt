@@ -1,32 +1,31 @@
 -- The rows of a size stand together, and a search of them alone finds the row of a feature.
--- Cited by the proofs of `rows_under`, `rows_of_size` and `place_among`.
+-- Cited by the proofs of `rows_of_size` and `place_among`.
 -- Assumes nothing.
-use mathlib.Core.Path.{_≡_, refl, sym, ap, ap₂, _∙_}
+use mathlib.Core.Path.{_≡_, ap, _∙_}
 use mathlib.Core.Logic.{⊎-elim, inl, inr}
-use mathlib.Core.Bool.{Bool, true, false, true≢false, cond}
+use mathlib.Core.Bool.{Bool, true, false, cond}
 use mathlib.Core.List.{List}
-use Prim.Native.Nat.{ℕ, _+_, _-_, _*_, _/_, _≤_, _<_}
+use Prim.Native.Nat.{ℕ, _+_, _-_, _*_, _≤_, _<_}
 use native.Mathlib.Nat.{eq-or-lt-of-le}
 use native.Mathlib.Omega.{arith}
-use lib.ListN.{length, getD, drop, length-drop}
-use lib.Seq.{length-take-le, getD-take, getD-drop}
+use lib.ListN.{length, getD}
 use lib.Dec.{ltb, eqb}
-use borrow.Author.Tests.{lt-ltb, ltb-true, ltb-false, eqb-true}
-use Rattle.laws.specs.Lists.{member, Ascending, countOf}
-use Rattle.laws.proofs.Ascending.{ascending-of, member-getD, member-nowhere}
-use Rattle.laws.proofs.Below.{count-below-most, count-below-mono}
+use borrow.Author.Tests.{lt-ltb, ltb-true, ltb-false, eqb-true, eqb-false}
+use Rattle.laws.specs.Below.{countBelow}
+use Rattle.laws.proofs.Below.{count-below-most, count-below-mono, sum-below-ext}
 use Rattle.laws.proofs.Halving.{Falling, Stretch, falling-count}
 use Rattle.laws.proofs.Order.{le-or-lt}
-use Rattle.halving.specs.Rows.{seconds}
-use Rattle.halving.proofs.Search.{place-holds, place-past, length-seconds, second-at}
-use Rattle.words.specs.Words.{rowCount, rowSize, rowFeature, rowStart, keyOf, rowKey}
+use Rattle.halving.specs.Column.{columnAt, Rising}
+use Rattle.halving.proofs.Search.{column-split}
+use Rattle.words.specs.Words.{rowCount, rowSize, rowFeature, rowPlace, rowLength, rowStart, rowWidth, sizeColumn, featureColumn, partRows, partFeature, partPlace, partLength}
+use Rattle.words.proofs.Laws.{size-at, cut-rows, cut-feature, cut-place, cut-length}
 use Rattle.index.specs.Good.{Good}
 use Rattle.index.proofs.Facts.{Before, good-facts}
 use Rattle.index.proofs.Laws.{good-within}
 use Rattle.lists.specs.Part.{cut, none}
 use Rattle.lists.specs.Lists.{spanAt, spanIn}
 use Rattle.lists.specs.Sizes.{rowsUnder, sizeSpan}
-use Rattle.lists.proofs.Rows.{key-parts, span-met, missing}
+use Rattle.lists.proofs.Rows.{span-met, missing}
 
 pub under-most : (w : List ℕ) (y : ℕ) → rowsUnder w y ≤ rowCount w
 unfolding rowsUnder
@@ -69,115 +68,146 @@ module _ (w : List ℕ) (g : Good w) where
   pub size-from : (y r : ℕ) → rowsUnder w y ≤ r → r < rowCount w → y ≤ rowSize w r
   size-from y r l m = let h = ltb-false (rowSize w r) y (under y .above r (omega arith) m) in omega arith
 
-  module _ (fits : (i : ℕ) → getD w i 0 < 4294967296) where
-    -- ---- the size's rows as a part of the words
+  -- ---- the column of the sizes, of n words from s on
 
-    module _ (y : ℕ) where
-      -- how many there are
-      abbrev pub many : ℕ
-      many = rowsUnder w (y + 1) - rowsUnder w y
+  module _ (n s : ℕ) (all : n ≡ rowCount w) (start : s ≡ rowStart w 0) where
+    size-here : (r : ℕ) → columnAt w (s + sizeColumn) rowWidth r ≡ rowSize w r
+    unfolding columnAt
+    size-here r = ap (λ (k : ℕ). getD w (k + sizeColumn + rowWidth * r) 0) start ∙ size-at w r
 
-      -- their words
-      abbrev pub part : List ℕ
-      part = cut (sizeSpan w y) w
+    -- it can be searched
+    pub sizes-searched : (n ≤ length w) × ((i : ℕ) → i < n → s + sizeColumn + rowWidth * i < length w) × Rising (columnAt w (s + sizeColumn) rowWidth) n
+    unfolding Rising
+    sizes-searched =
+        let h = good-within w g in (
+          omega arith,
+          λ i l. omega arith,
+          λ i j l m. rw (size-here i, size-here j) (size-rises i j l (omega arith)),
+        )
 
-      part-size : (r : ℕ) → rowsUnder w y ≤ r → r < rowsUnder w (y + 1) → rowSize w r ≡ y
-      part-size r l m =
-          let o = under-most w (y + 1) in
-          let a = size-from y r l (omega arith) in
-          let b = size-under (y + 1) r m in
-          omega arith
+    -- and the search finds where the rows of a size begin
+    pub under-found : (y r : ℕ) → r ≡ countBelow n (λ (i : ℕ). ltb (columnAt w (s + sizeColumn) rowWidth i) y) → r ≡ rowsUnder w y
+    unfolding rowsUnder
+    under-found y r e =
+        e
+        ∙ ap (λ (k : ℕ). countBelow k (λ (i : ℕ). ltb (columnAt w (s + sizeColumn) rowWidth i) y)) all
+        ∙ sum-below-ext (rowCount w) (λ (i : ℕ). cond (ltb (columnAt w (s + sizeColumn) rowWidth i) y) 1 0) (λ (i : ℕ). cond (ltb (rowSize w i) y) 1 0)
+        (λ i h. ap (λ (v : ℕ). cond (ltb v y) 1 0) (size-here i))
 
-      pub part-end : rowStart w (rowsUnder w (y + 1)) ≤ length w
-      part-end = let o = under-most w (y + 1) in let h = good-within w g in omega arith
+  -- ---- the size's rows as a part of the words
 
-      pub length-part : length part ≡ 4 * many
+  module _ (y : ℕ) where
+    -- how many there are
+    abbrev pub many : ℕ
+    many = rowsUnder w (y + 1) - rowsUnder w y
+
+    -- their words
+    abbrev pub part : List ℕ
+    part = cut (sizeSpan w y) w
+
+    part-size : (r : ℕ) → rowsUnder w y ≤ r → r < rowsUnder w (y + 1) → rowSize w r ≡ y
+    part-size r l m =
+        let o = under-most w (y + 1) in
+        let a = size-from y r l (omega arith) in
+        let b = size-under (y + 1) r m in
+        omega arith
+
+    pub part-end : rowStart w (rowsUnder w (y + 1)) ≤ length w
+    part-end = let o = under-most w (y + 1) in let h = good-within w g in omega arith
+
+    part-whole : rowStart w (rowsUnder w y + many) ≤ length w
+    part-whole = let o = under-next w y in let h = part-end in omega arith
+
+    pub length-rows : partRows part ≡ many
+    unfolding sizeSpan
+    length-rows = cut-rows w (rowsUnder w y) many part-whole
+
+    -- the i-th of them
+    module _ (i : ℕ) (row : i < many) where
+      pub feature-in : partFeature part i ≡ rowFeature w (rowsUnder w y + i)
       unfolding sizeSpan
-      length-part =
-          let o = under-next w y in
-          let h = part-end in
-          let n = length-drop (rowStart w (rowsUnder w y)) w in
-          length-take-le (4 * many) (drop (rowStart w (rowsUnder w y)) w) (omega arith)
+      feature-in = cut-feature w (rowsUnder w y) many part-whole i row
 
-      pub length-rows : length part / 4 ≡ many
-      length-rows = let n = length-part in omega arith
-
-      -- word k of the i-th of them
-      pub part-word : (i k v : ℕ) → i < many → k < 4 → v ≡ rowStart w (rowsUnder w y + i) + k → getD part (4 * i + k) 0 ≡ getD w v 0
+      pub place-in : partPlace part i ≡ rowPlace w (rowsUnder w y + i)
       unfolding sizeSpan
-      part-word i k v h l e =
-          let n : rowStart w (rowsUnder w y) + (4 * i + k) ≡ v = omega arith in
-          getD-take (4 * many) (drop (rowStart w (rowsUnder w y)) w) (4 * i + k) 0 (omega arith)
-          ∙ getD-drop (rowStart w (rowsUnder w y)) w (4 * i + k) 0
-          ∙ ap (λ (m : ℕ). getD w m 0) n
+      place-in = cut-place w (rowsUnder w y) many part-whole i row
 
-      second-row : (i : ℕ) → i < many → getD (seconds part) i 0 ≡ rowFeature w (rowsUnder w y + i)
-      unfolding rowFeature
-      second-row i h = second-at part i (rw length-rows h) ∙ part-word i 1 (rowStart w (rowsUnder w y + i) + 1) h (omega arith) refl
+      pub length-in : partLength part i ≡ rowLength w (rowsUnder w y + i)
+      unfolding sizeSpan
+      length-in = cut-length w (rowsUnder w y) many part-whole i row
 
-      pub seconds-ascend : Ascending (seconds part)
-      unfolding Before
-      seconds-ascend =
-          let n = length-seconds part ∙ length-rows in
-          let o = under-most w (y + 1) in
-          ascending-of (seconds part)
-          (λ i j l m.
-          let h : j < many = rw n at m in
-          let a = second-row i (omega arith) in
-          let b = second-row j h in
-          let p = part-size (rowsUnder w y + i) (omega arith) (omega arith) in
-          let q = part-size (rowsUnder w y + j) (omega arith) (omega arith) in
-          ⊎-elim
-          (λ (u : rowSize w (rowsUnder w y + i) < rowSize w (rowsUnder w y + j)). absurd (omega arith))
-          (λ u. let v = u .1 in (let z : getD (seconds part) i 0 < getD (seconds part) j 0 = omega arith in z))
-          (good-facts w g .rows .before (rowsUnder w y + i) (rowsUnder w y + j) (omega arith) (omega arith)))
+    -- their features ascend
+    features-ascend : (i j : ℕ) → i < j → j < many → rowFeature w (rowsUnder w y + i) < rowFeature w (rowsUnder w y + j)
+    unfolding Before
+    features-ascend i j l h =
+        let o = under-most w (y + 1) in
+        let p = part-size (rowsUnder w y + i) (omega arith) (omega arith) in
+        let q = part-size (rowsUnder w y + j) (omega arith) (omega arith) in
+        ⊎-elim
+        (λ (u : rowSize w (rowsUnder w y + i) < rowSize w (rowsUnder w y + j)). absurd (omega arith))
+        (λ u. u .1)
+        (good-facts w g .rows .before (rowsUnder w y + i) (rowsUnder w y + j) (omega arith) (omega arith))
 
-      -- a row of them that has the feature is the row sought
-      among-met : (f i : ℕ) → f < 4294967296 → i < many → rowFeature w (rowsUnder w y + i) ≡ f → spanIn w y f ≡ spanAt w (rowsUnder w y + i)
-      unfolding rowKey
-      among-met f i l h e =
-          let o = under-most w (y + 1) in
-          span-met w g fits y f (rowsUnder w y + i) l (omega arith) (ap₂ keyOf (part-size (rowsUnder w y + i) (omega arith) (omega arith)) e)
+    -- and are a column of the part
+    feature-at : (i : ℕ) → i < many → columnAt part featureColumn rowWidth i ≡ rowFeature w (rowsUnder w y + i)
+    unfolding columnAt partFeature
+    feature-at i h = feature-in i h
 
-      -- where none of them has the feature no row has the size and the feature
-      among-none : (f : ℕ) → f < 4294967296 → member f (seconds part) ≡ false → spanIn w y f ≡ none
-      among-none f l n =
-          missing w g fits y f
-          (λ r m e.
-          let p = key-parts w g fits r y f l e in
-          let s = p .0 in
-          ⊎-elim
-          (λ (a : rowsUnder w y ≤ r).
-          ⊎-elim
-          (λ (b : rowsUnder w (y + 1) ≤ r). let c = size-from (y + 1) r b m in omega arith)
-          (λ (b : r < rowsUnder w (y + 1)).
-          let i : rowsUnder w y + (r - rowsUnder w y) ≡ r = omega arith in
-          let h : r - rowsUnder w y < many = omega arith in
-          true≢false
-          (sym
-          (member-getD f (seconds part) (r - rowsUnder w y) (rw (length-seconds part ∙ length-rows) h)
-          (second-row (r - rowsUnder w y) h ∙ ap (rowFeature w) i ∙ p .1))
-          ∙ n))
-          (le-or-lt (rowsUnder w (y + 1)) r))
-          (λ (a : r < rowsUnder w y). let c = size-under y r a in omega arith)
-          (le-or-lt (rowsUnder w y) r))
+    pub features-rise : Rising (columnAt part featureColumn rowWidth) (partRows part)
+    unfolding Rising
+    features-rise i j l m =
+        let h : j < many = rw length-rows at m in
+        let a = feature-at i (omega arith) in
+        let b = feature-at j h in
+        ⊎-elim
+        (λ (e : i ≡ j). let f = ap (columnAt part featureColumn rowWidth) e in (let z : columnAt part featureColumn rowWidth i ≤ columnAt part featureColumn rowWidth j = omega arith in z))
+        (λ (p : i < j). let f = features-ascend i j p h in (let z : columnAt part featureColumn rowWidth i ≤ columnAt part featureColumn rowWidth j = omega arith in z))
+        (eq-or-lt-of-le l)
 
-      pub among-empty : (f : ℕ) → f < 4294967296 → many ≡ 0 → spanIn w y f ≡ none
-      among-empty f l e =
-          let n = length-seconds part ∙ length-rows in
-          among-none f l (member-nowhere f (seconds part) (λ i h q. omega arith))
+    -- a row of them that has the feature is the row sought
+    among-met : (f i : ℕ) → i < many → rowFeature w (rowsUnder w y + i) ≡ f → spanIn w y f ≡ spanAt w (rowsUnder w y + i)
+    among-met f i h e =
+        let o = under-most w (y + 1) in
+        span-met w g y f (rowsUnder w y + i) (omega arith) (part-size (rowsUnder w y + i) (omega arith) (omega arith)) e
 
-      -- what a halving search of them tells
-      pub among : (f at row : ℕ) → f < 4294967296 → at ≡ countOf (λ (z : ℕ). ltb z f) (seconds part) → row < many → (at < many → row ≡ at)
-          → (b : Bool) → eqb (rowFeature w (rowsUnder w y + row)) f ≡ b → spanIn w y f ≡ cond b (spanAt w (rowsUnder w y + row)) none
-      among f at row l e h same true q = among-met f row l h (eqb-true (rowFeature w (rowsUnder w y + row)) f q)
-      among f at row l e h same false q =
-          let n = length-seconds part ∙ length-rows in
-          among-none f l
-          (⊎-elim
-          (λ (a : many ≤ at). place-past (seconds part) f at seconds-ascend e (rw n a))
-          (λ (a : at < many).
-          sym (place-holds (seconds part) f at seconds-ascend e (rw n a))
-          ∙ ap (λ (v : ℕ). eqb v f) (second-row at a ∙ ap (λ (i : ℕ). rowFeature w (rowsUnder w y + i)) (sym (same a)))
-          ∙ q)
-          (le-or-lt many at))
+    -- where none of them has the feature no row has the size and the feature
+    among-none : (f : ℕ) → ((i : ℕ) → i < many → rowFeature w (rowsUnder w y + i) ≡ f → ⊥) → spanIn w y f ≡ none
+    among-none f n =
+        missing w y f
+        (λ r m s e.
+        ⊎-elim
+        (λ (a : rowsUnder w y ≤ r).
+        ⊎-elim
+        (λ (b : rowsUnder w (y + 1) ≤ r). let c = size-from (y + 1) r b m in omega arith)
+        (λ (b : r < rowsUnder w (y + 1)).
+        let i : rowsUnder w y + (r - rowsUnder w y) ≡ r = omega arith in
+        n (r - rowsUnder w y) (omega arith) (ap (rowFeature w) i ∙ e))
+        (le-or-lt (rowsUnder w (y + 1)) r))
+        (λ (a : r < rowsUnder w y). let c = size-under y r a in omega arith)
+        (le-or-lt (rowsUnder w y) r))
+
+    pub among-empty : (f : ℕ) → many ≡ 0 → spanIn w y f ≡ none
+    among-empty f e = among-none f (λ i h q. omega arith)
+
+    -- what a binary search of them tells
+    pub among : (f at row : ℕ) → at ≡ countBelow (partRows part) (λ (i : ℕ). ltb (columnAt part featureColumn rowWidth i) f) → row < many → (at < many → row ≡ at)
+        → (b : Bool) → eqb (rowFeature w (rowsUnder w y + row)) f ≡ b → spanIn w y f ≡ cond b (spanAt w (rowsUnder w y + row)) none
+    among f at row e h same true q = among-met f row h (eqb-true (rowFeature w (rowsUnder w y + row)) f q)
+    among f at row e h same false q =
+        let s = column-split (columnAt part featureColumn rowWidth) (partRows part) f at features-rise e in
+        let n = length-rows in
+        among-none f
+        (λ i l v.
+        let a = feature-at i l in
+        ⊎-elim
+        (λ (p : at ≤ i).
+        ⊎-elim
+        (λ (o : at ≡ i). eqb-false (rowFeature w (rowsUnder w y + row)) f q (ap (λ (k : ℕ). rowFeature w (rowsUnder w y + k)) (same (omega arith) ∙ o) ∙ v))
+        (λ (o : at < i).
+        let b = feature-at at (omega arith) in
+        let c = s .2 at (omega arith) (omega arith) in
+        let d = features-ascend at i o l in
+        omega arith)
+        (eq-or-lt-of-le p))
+        (λ (p : i < at). let c = s .1 i p in omega arith)
+        (le-or-lt at i))

@@ -1,14 +1,13 @@
 // The list of a size and a feature, and the rows of one size. The rule: docs/RULE.md, "Index words"; the definitions: specs/.
 ghost use mathlib.Core.Path.{_≡_};
 ghost use mathlib.Core.Bool.{cond};
-ghost use Prim.Native.Nat.{ℕ, _+_, _-_, _*_, _^_, _≤_, _<_};
-ghost use lib.ListN.{length, getD};
-ghost use lib.Dec.{ltb, eqb};
-ghost use Rattle.words.specs.Words.{postingsStart};
+ghost use Prim.Native.Nat.{_+_, _^_, _<_};
+ghost use lib.Dec.{eqb};
+ghost use Rattle.words.specs.Words.{postingsStart, partRows, partFeature, partPlace, partLength};
 ghost use Rattle.index.specs.Good.{Good};
 ghost use Rattle.lists.specs.Part.{cut, Part};
 ghost use Rattle.lists.specs.Lists.{spanIn, spanFor};
-ghost use Rattle.lists.specs.Sizes.{rowsUnder, sizeSpan};
+ghost use Rattle.lists.specs.Sizes.{sizeSpan};
 
 // ---- the rows of one size
 
@@ -18,35 +17,15 @@ pub struct Place {
     pub count: usize,
 }
 
-// How many rows have a size below: where the rows of the size begin.
-fn rows_under(words: &[u32], size: u64) -> usize
-    requires { ⌜ Good (now words) ⌝ }
-    ensures { λ r. ⌜ r ≡ rowsUnder (now (words .entry)) size ⌝ }
-{
-    let n = words::row_count(words);
-    let mut k = halving::highest(n + 1);
-    let rest = n + 1 - halving::power(k);
-    let mut base: usize = 0;
-    if 0 < rest {
-        if (words::row_size(words, rest - 1) as u64) < size {
-            base = rest;
-        }
-    }
-    while 0 < k {
-        k -= 1;
-        let at = base + halving::power(k) - 1;
-        base += halving::power_if((words::row_size(words, at) as u64) < size, k);
-    }
-    base
-}
-
 // The rows of a size of a good index, as that part of the words. Neither search waits for the other.
 pub fn rows_of_size(words: &[u32], size: u32) -> &[u32]
     requires { ⌜ Good (now words) ⌝ }
     ensures { λ l. ⌜ Part (words .entry) l (sizeSpan (now (words .entry)) size) ⌝ }
 {
-    let from = rows_under(words, size as u64);
-    let to = rows_under(words, size as u64 + 1);
+    let n = words::row_count(words);
+    let first = words::row_start(words, 0) + words::SIZE_COLUMN;
+    let from = halving::place_in_column(words, first, words::ROW_WIDTH, n, size as u64);
+    let to = halving::place_in_column(words, first, words::ROW_WIDTH, n, size as u64 + 1);
     let start = words::row_start(words, from);
     let end = words::row_start(words, to);
     &words[start..end]
@@ -54,12 +33,12 @@ pub fn rows_of_size(words: &[u32], size: u32) -> &[u32]
 
 // Where a row's list lies if the row has the feature, the postings starting at `first`; no words at 0 otherwise. There is no jump to guess.
 fn place_if(rows: &[u32], row: usize, first: usize, feature: u64) -> Place
-    requires { ⌜ (4 * row + 4 ≤ length (now rows)) × (first < 2 ^ 63) ⌝ }
-    ensures { λ p. ⌜ (p .start ≡ cond (eqb (getD (now (rows .entry)) (4 * row + 1) 0) feature) (first + getD (now (rows .entry)) (4 * row + 2) 0) 0) × (p .count ≡ cond (eqb (getD (now (rows .entry)) (4 * row + 1) 0) feature) (getD (now (rows .entry)) (4 * row + 3) 0) 0) ⌝ }
+    requires { ⌜ (row < partRows (now rows)) × (first < 2 ^ 63) ⌝ }
+    ensures { λ p. ⌜ (p .start ≡ cond (eqb (partFeature (now (rows .entry)) row) feature) (first + partPlace (now (rows .entry)) row) 0) × (p .count ≡ cond (eqb (partFeature (now (rows .entry)) row) feature) (partLength (now (rows .entry)) row) 0) ⌝ }
 {
-    let hit = halving::one_if(rows[4 * row + 1] as u64 == feature);
-    let start = first + rows[4 * row + 2] as usize;
-    let count = rows[4 * row + 3] as usize;
+    let hit = halving::one_if(words::part_feature(rows, row) == feature);
+    let start = first + words::part_place(rows, row);
+    let count = words::part_length(rows, row);
     Place {
         start: start * hit,
         count: count * hit,
@@ -72,14 +51,11 @@ pub fn place_among(words: &[u32], rows: &[u32], first: usize, size: u32, feature
     requires { ⌜ Good (now words) × (now rows ≡ cut (sizeSpan (now words) size) (now words)) × (first ≡ postingsStart (now words)) ⌝ }
     ensures { λ p. ⌜ (p .start ≡ spanIn (now (words .entry)) size feature .start) × (p .count ≡ spanIn (now (words .entry)) size feature .count) ⌝ }
 {
-    if 0xFFFFFFFF < feature {
-        return Place { start: 0, count: 0 };
-    }
-    let n = rows.len() / 4;
+    let n = words::part_rows(rows);
     if n == 0 {
         return Place { start: 0, count: 0 };
     }
-    let at = halving::place_in_rows(rows, feature as u32);
+    let at = halving::place_in_column(rows, words::FEATURE_COLUMN, words::ROW_WIDTH, n, feature);
     let row = at - halving::one_if(at == n);
     place_if(rows, row, first, feature)
 }

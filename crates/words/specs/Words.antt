@@ -4,7 +4,7 @@
 -- Assumes nothing.
 use mathlib.Core.List.{List}
 use Prim.Native.Nat.{ℕ, _+_, _*_, _/_, _%_, _^_}
-use lib.ListN.{getD, take, drop}
+use lib.ListN.{length, getD, take, drop}
 
 -- ---- the head
 
@@ -41,6 +41,19 @@ nameSize w i = nameWord w i % 256
 abbrev pub rowWidth : ℕ
 rowWidth = 4
 
+-- which of them is which
+abbrev pub sizeColumn : ℕ
+sizeColumn = 0
+
+abbrev pub featureColumn : ℕ
+featureColumn = 1
+
+abbrev pub placeColumn : ℕ
+placeColumn = 2
+
+abbrev pub lengthColumn : ℕ
+lengthColumn = 3
+
 -- where the rows start
 abbrev pub rowsStart : List ℕ → ℕ
 rowsStart w = namesStart + nameCount w
@@ -53,13 +66,32 @@ unfoldable pub rowSize : List ℕ → ℕ → ℕ
 rowSize w r = getD w (rowStart w r) 0
 
 unfoldable pub rowFeature : List ℕ → ℕ → ℕ
-rowFeature w r = getD w (rowStart w r + 1) 0
+rowFeature w r = getD w (rowStart w r + featureColumn) 0
 
 unfoldable pub rowPlace : List ℕ → ℕ → ℕ
-rowPlace w r = getD w (rowStart w r + 2) 0
+rowPlace w r = getD w (rowStart w r + placeColumn) 0
 
 unfoldable pub rowLength : List ℕ → ℕ → ℕ
-rowLength w r = getD w (rowStart w r + 3) 0
+rowLength w r = getD w (rowStart w r + lengthColumn) 0
+
+-- ---- rows cut out of the words
+
+-- m rows from row a on
+abbrev pub rowsCut : List ℕ → ℕ → ℕ → List ℕ
+rowsCut w a m = take (rowWidth * m) (drop (rowStart w a) w)
+
+-- how many rows such a part has; words behind the last whole row are no row
+unfoldable pub partRows : List ℕ → ℕ
+partRows rows = length rows / rowWidth
+
+unfoldable pub partFeature : List ℕ → ℕ → ℕ
+partFeature rows r = getD rows (featureColumn + rowWidth * r) 0
+
+unfoldable pub partPlace : List ℕ → ℕ → ℕ
+partPlace rows r = getD rows (placeColumn + rowWidth * r) 0
+
+unfoldable pub partLength : List ℕ → ℕ → ℕ
+partLength rows r = getD rows (lengthColumn + rowWidth * r) 0
 
 -- ---- a row by one number
 

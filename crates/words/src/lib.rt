@@ -2,7 +2,18 @@
 ghost use mathlib.Core.Path.{_≡_};
 ghost use Prim.Native.Nat.{_+_, _*_, _^_, _≤_, _<_};
 ghost use lib.ListN.{length, getD};
-ghost use Rattle.words.specs.Words.{nameCount, rowCount, postingCount, namesStart, nameId, nameSize, rowWidth, rowStart, rowSize, rowFeature, rowPlace, rowLength, rowKey};
+ghost use Rattle.words.specs.Words.{nameCount, rowCount, postingCount, namesStart, nameId, nameSize, rowWidth, rowStart, rowSize, rowFeature, rowPlace, rowLength, rowKey, partRows, partFeature, partPlace, partLength};
+
+// How many words a row has, and which of them is which.
+pub const ROW_WIDTH: usize = 4;
+
+pub const SIZE_COLUMN: usize = 0;
+
+pub const FEATURE_COLUMN: usize = 1;
+
+pub const PLACE_COLUMN: usize = 2;
+
+pub const LENGTH_COLUMN: usize = 3;
 
 fn wide(x: u32) -> usize
     ensures { λ r. ⌜ (r ≡ x) × (r < 4294967296) ⌝ }
@@ -55,7 +66,7 @@ pub fn row_start(words: &[u32], r: usize) -> usize
     requires { ⌜ (namesStart ≤ length (now words)) × (4 * r < 2 ^ 63) ⌝ }
     ensures { λ v. ⌜ (v ≡ rowStart (now (words .entry)) r) × (v ≤ 4 * r + 4294967298) ⌝ }
 {
-    3 + wide(words[0]) + 4 * r
+    3 + wide(words[0]) + ROW_WIDTH * r
 }
 
 // Word k of row r.
@@ -71,7 +82,7 @@ pub fn row_size(words: &[u32], r: usize) -> u32
     requires { ⌜ rowStart (now words) r + rowWidth ≤ length (now words) ⌝ }
     ensures { λ v. ⌜ v ≡ rowSize (now (words .entry)) r ⌝ }
 {
-    row_word(words, r, 0)
+    row_word(words, r, SIZE_COLUMN)
 }
 
 // The feature of row r.
@@ -79,7 +90,7 @@ pub fn row_feature(words: &[u32], r: usize) -> u64
     requires { ⌜ rowStart (now words) r + rowWidth ≤ length (now words) ⌝ }
     ensures { λ v. ⌜ (v ≡ rowFeature (now (words .entry)) r) × (v < 4294967296) ⌝ }
 {
-    row_word(words, r, 1) as u64
+    row_word(words, r, FEATURE_COLUMN) as u64
 }
 
 // Where row r's list starts among the postings.
@@ -87,7 +98,7 @@ pub fn row_place(words: &[u32], r: usize) -> usize
     requires { ⌜ rowStart (now words) r + rowWidth ≤ length (now words) ⌝ }
     ensures { λ v. ⌜ (v ≡ rowPlace (now (words .entry)) r) × (v < 4294967296) ⌝ }
 {
-    wide(row_word(words, r, 2))
+    wide(row_word(words, r, PLACE_COLUMN))
 }
 
 // How many ids row r's list has.
@@ -95,7 +106,7 @@ pub fn row_length(words: &[u32], r: usize) -> usize
     requires { ⌜ rowStart (now words) r + rowWidth ≤ length (now words) ⌝ }
     ensures { λ v. ⌜ (v ≡ rowLength (now (words .entry)) r) × (v < 4294967296) ⌝ }
 {
-    wide(row_word(words, r, 3))
+    wide(row_word(words, r, LENGTH_COLUMN))
 }
 
 // The size and the feature of row r as one number.
@@ -104,4 +115,45 @@ pub fn row_key(words: &[u32], r: usize) -> u64
     ensures { λ v. ⌜ v ≡ rowKey (now (words .entry)) r ⌝ }
 {
     row_size(words, r) as u64 * 4294967296 + row_feature(words, r)
+}
+
+// ---- rows cut out of the words
+
+// How many rows a part of the words has.
+pub fn part_rows(rows: &[u32]) -> usize
+    ensures { λ r. ⌜ r ≡ partRows (now (rows .entry)) ⌝ }
+{
+    rows.len() / ROW_WIDTH
+}
+
+// Word k of row r of such a part.
+fn part_word(rows: &[u32], r: usize, k: usize) -> u32
+    requires { ⌜ (r < partRows (now rows)) × (k < rowWidth) ⌝ }
+    ensures { λ v. ⌜ v ≡ getD (now (rows .entry)) (k + rowWidth * r) 0 ⌝ }
+{
+    rows[k + ROW_WIDTH * r]
+}
+
+// The feature of row r of it.
+pub fn part_feature(rows: &[u32], r: usize) -> u64
+    requires { ⌜ r < partRows (now rows) ⌝ }
+    ensures { λ v. ⌜ v ≡ partFeature (now (rows .entry)) r ⌝ }
+{
+    part_word(rows, r, FEATURE_COLUMN) as u64
+}
+
+// Where the list of row r of it starts among the postings.
+pub fn part_place(rows: &[u32], r: usize) -> usize
+    requires { ⌜ r < partRows (now rows) ⌝ }
+    ensures { λ v. ⌜ (v ≡ partPlace (now (rows .entry)) r) × (v < 4294967296) ⌝ }
+{
+    wide(part_word(rows, r, PLACE_COLUMN))
+}
+
+// How many ids the list of row r of it has.
+pub fn part_length(rows: &[u32], r: usize) -> usize
+    requires { ⌜ r < partRows (now rows) ⌝ }
+    ensures { λ v. ⌜ (v ≡ partLength (now (rows .entry)) r) × (v < 4294967296) ⌝ }
+{
+    wide(part_word(rows, r, LENGTH_COLUMN))
 }
