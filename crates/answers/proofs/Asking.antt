@@ -16,7 +16,7 @@ use Rattle.laws.proofs.Order.{eq-or-ne}
 use Rattle.names.specs.Features.{featuresOf}
 use Rattle.names.proofs.Laws.{size-most}
 use Rattle.layouts.specs.declared.Reading.{Reading}
-use Rattle.layouts.specs.Layouts.{isFrame, fieldsIn, nameIn, readOf, bufferOf, acceptedAs, refusedWith}
+use Rattle.layouts.specs.Layouts.{isFrame, fieldsIn, nameIn, readOf, bufferOf, acceptedAs, refusedWith, longestName}
 use Rattle.layouts.proofs.Laws.{read-roomy}
 use Rattle.frames.specs.declared.QueryRead.{QueryRead}
 use Rattle.frames.specs.Frames.{queryFrame, queryOut}
@@ -34,7 +34,7 @@ use Rattle.answers.specs.Rows.{Shown}
 
 -- ---- what was read
 
-module _ (line buffer after : List ℕ) (r : QueryRead) (room : length buffer ≡ 255) (read : queryOut r ≡ readOf queryFrame line (length buffer))
+module _ (line buffer after : List ℕ) (r : QueryRead) (room : length buffer ≡ longestName) (read : queryOut r ≡ readOf queryFrame line (length buffer))
     (left : after ≡ bufferOf queryFrame line buffer) where
   read-as : (t : Bool) → isFrame queryFrame line ≡ t → queryOut r ≡ cond t (acceptedAs queryFrame line) (refusedWith queryFrame 11)
   read-as t e =

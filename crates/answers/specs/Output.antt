@@ -9,7 +9,7 @@ use Rattle.laws.specs.Lists.{tabulate}
 use Rattle.names.specs.Features.{featuresOf}
 use Rattle.layouts.specs.declared.Written.{Written}
 use Rattle.layouts.specs.Layouts.{isFrame, fieldsIn, nameIn, lineOf}
-use Rattle.frames.specs.Frames.{queryFrame, rowFrame, endFrame, refusalFrame}
+use Rattle.frames.specs.Frames.{queryFrame, rowFrame, endFrame, refusalFrame, rowLength, endLength}
 use Rattle.lines.specs.Lines.{linesOf, lineLength}
 use Rattle.postings.specs.Written.{blank}
 use Rattle.register.specs.Build.{builtOf, wordsAfter}
@@ -97,7 +97,7 @@ rowsLent = 256
 
 -- how many bytes the longest answer has: a line for each row that is lent, and the end
 abbrev pub longestAnswer : ℕ
-longestAnswer = 11 * rowsLent + 23
+longestAnswer = rowLength * rowsLent + endLength
 
 -- the query of a 51 line, and its fields
 abbrev pub queryIn : List ℕ → List ℕ

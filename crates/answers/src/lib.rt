@@ -5,6 +5,8 @@ ghost use mathlib.Core.Bool.{true};
 ghost use mathlib.Core.List.{List, _++_};
 ghost use Prim.Native.Nat.{ℕ, _+_, _*_, _≤_, _<_};
 ghost use lib.ListN.{length, getD, take, drop};
+ghost use Rattle.layouts.specs.Layouts.{longestName};
+ghost use Rattle.frames.specs.Frames.{rowLength};
 ghost use Rattle.index.specs.Good.{Good};
 ghost use Rattle.search.specs.Answers.{rowsIn, asColumns, Searched};
 ghost use Rattle.answers.specs.Output.{begins, registerEnd, openedOf, openWords, rowLine, rowsText, rowsLent, foundText, answerText, answerOf, fittingOf, fittedOf, lineText, respondedOf};
@@ -20,7 +22,7 @@ pub const INDEX_WORDS: usize = 16384;
 
 pub const ROWS_LENT: usize = 256;
 
-pub const LONGEST_ANSWER: usize = 2839;
+pub const LONGEST_ANSWER: usize = frames::ROW_LENGTH * ROWS_LENT + frames::END_LENGTH;
 
 // ---- opening: an input to its index
 
@@ -85,16 +87,21 @@ pub fn open(input: &[u8], words: &mut [u32]) -> Opened
 
 // Writes a 52 line at the place of row k.
 fn put_row(id: u32, shared: u32, size: u32, out: &mut [u8], k: usize)
-    requires { ⌜ (id < 65536) × (shared < 256) × (size < 256) × (k ≤ rowsLent) × (11 * k + 11 ≤ length (now out)) ⌝ }
-    ensures { λ _. ⌜ now (out .exit) ≡ take (11 * k) (now (out .entry)) ++ (rowLine id shared size ++ drop (11 * k + 11) (now (out .entry))) ⌝ }
+    requires { ⌜ (id < 65536) × (shared < 256) × (size < 256) × (k ≤ rowsLent) × (rowLength * k + rowLength ≤ length (now out)) ⌝ }
+    ensures { λ _. ⌜ now (out .exit) ≡ take (rowLength * k) (now (out .entry)) ++ (rowLine id shared size ++ drop (rowLength * k + rowLength) (now (out .entry))) ⌝ }
 {
-    let at = 11 * k;
-    frames::write_row(&mut out[at..at + 11], id as u16, shared as u8, size as u8);
+    let at = frames::ROW_LENGTH * k;
+    frames::write_row(
+        &mut out[at..at + frames::ROW_LENGTH],
+        id as u16,
+        shared as u8,
+        size as u8,
+    );
 }
 
 // Writes a 52 line for each of the first n rows.
 fn put_rows(ids: &[u32], shared: &[u32], sizes: &[u32], n: usize, out: &mut [u8])
-    requires { ⌜ Shown (asColumns (now ids) (now shared) (now sizes)) n × (length (now out) ≡ 11 * n) ⌝ }
+    requires { ⌜ Shown (asColumns (now ids) (now shared) (now sizes)) n × (length (now out) ≡ rowLength * n) ⌝ }
     ensures { λ _. ⌜ now (out .exit) ≡ rowsText (asColumns (now (ids .entry)) (now (shared .entry)) (now (sizes .entry))) n ⌝ }
 {
     let mut k: usize = 0;
@@ -119,8 +126,8 @@ fn put_found(
     ensures { λ r. ⌜ (r ≡ fittingOf (foundText rows touches p q (asColumns (now (ids .entry)) (now (shared .entry)) (now (sizes .entry)))) (length (now (out .entry)))) × (now (out .exit) ≡ fittedOf (foundText rows touches p q (asColumns (now (ids .entry)) (now (shared .entry)) (now (sizes .entry)))) (now (out .entry))) ⌝ }
 {
     let n = rows as usize;
-    let end = 11 * n;
-    let total = end + 23;
+    let end = frames::ROW_LENGTH * n;
+    let total = end + frames::END_LENGTH;
     if out.len() < total {
         return Written { number: 8, len: 0 };
     }
@@ -181,7 +188,7 @@ fn answer_with(
     sizes: &mut [u32],
     out: &mut [u8],
 ) -> Written
-    requires { ⌜ (known ≡ true → Good (now words)) × (length (now query) ≡ 255) × (length (now ids) ≡ rowsLent) × (length (now shared) ≡ rowsLent) × (length (now sizes) ≡ rowsLent) ⌝ }
+    requires { ⌜ (known ≡ true → Good (now words)) × (length (now query) ≡ longestName) × (length (now ids) ≡ rowsLent) × (length (now shared) ≡ rowsLent) × (length (now sizes) ≡ rowsLent) ⌝ }
     ensures { λ r. ⌜ (r ≡ fittingOf (answerOf (now (words .entry)) (now (line .entry))) (length (now (out .entry)))) × (now (out .exit) ≡ fittedOf (answerOf (now (words .entry)) (now (line .entry))) (now (out .entry))) ⌝ }
 {
     let read = frames::read_query(line, query);
@@ -210,7 +217,7 @@ pub fn answer_good(line: &[u8], words: &[u32], out: &mut [u8]) -> Written
     requires { ⌜ Good (now words) ⌝ }
     ensures { λ r. ⌜ (r ≡ fittingOf (answerOf (now (words .entry)) (now (line .entry))) (length (now (out .entry)))) × (now (out .exit) ≡ fittedOf (answerOf (now (words .entry)) (now (line .entry))) (now (out .entry))) ⌝ }
 {
-    let mut query = [0u8; 255];
+    let mut query = [0u8; layouts::LONGEST_NAME];
     let mut ids = [0u32; ROWS_LENT];
     let mut shared = [0u32; ROWS_LENT];
     let mut sizes = [0u32; ROWS_LENT];
@@ -230,7 +237,7 @@ pub fn answer_good(line: &[u8], words: &[u32], out: &mut [u8]) -> Written
 pub fn answer(line: &[u8], words: &[u32], out: &mut [u8]) -> Written
     ensures { λ r. ⌜ (r ≡ fittingOf (answerOf (now (words .entry)) (now (line .entry))) (length (now (out .entry)))) × (now (out .exit) ≡ fittedOf (answerOf (now (words .entry)) (now (line .entry))) (now (out .entry))) ⌝ }
 {
-    let mut query = [0u8; 255];
+    let mut query = [0u8; layouts::LONGEST_NAME];
     let mut ids = [0u32; ROWS_LENT];
     let mut shared = [0u32; ROWS_LENT];
     let mut sizes = [0u32; ROWS_LENT];

@@ -13,7 +13,7 @@ use Rattle.laws.specs.Below.{allBelow}
 use Rattle.laws.proofs.Below.{all-at}
 use Rattle.hex.specs.Lines.{Bytes}
 use Rattle.layouts.specs.declared.Reading.{Reading}
-use Rattle.layouts.specs.Layouts.{lineOf, isFrame, nameIn, readOf}
+use Rattle.layouts.specs.Layouts.{lineOf, isFrame, nameIn, readOf, longestName}
 use Rattle.layouts.proofs.Laws.{fitting-named, fitting-plain, read-write, write-reading, kind-unique}
 use Rattle.frames.specs.declared.NameRead.{NameRead}
 use Rattle.frames.specs.declared.QueryRead.{QueryRead}
@@ -27,12 +27,12 @@ use Rattle.frames.specs.Frames.{nameFrame, queryFrame, rowFrame, endFram
 
 -- ---- writing and then reading
 
-pub read-write-name : (id : ℕ) (name : List ℕ) (room : ℕ) → id < 65536 → Bytes name → length name ≤ 255 → length name ≤ room
+pub read-write-name : (id : ℕ) (name : List ℕ) (room : ℕ) → id < 65536 → Bytes name → length name ≤ longestName → length name ≤ room
     → readOf nameFrame (lineOf nameFrame (id ∷ []) name) room ≡ nameOut (record { number = 0; id = id; len = length name })
 read-write-name id name room i b h r = read-write nameFrame (id ∷ []) name (fitting-named nameFrame (id ∷ []) name refl (omega arith) (i, tt) b h) room r
 
 pub read-write-query : (measure p q allowance : ℕ) (query : List ℕ) (room : ℕ) → measure < 256 → p < 65536 → q < 65536 → allowance < 4294967296
-    → Bytes query → length query ≤ 255 → length query ≤ room
+    → Bytes query → length query ≤ longestName → length query ≤ room
     → readOf queryFrame (lineOf queryFrame (measure ∷ p ∷ q ∷ allowance ∷ []) query) room
     ≡ queryOut (record { number = 0; measure = measure; p = p; q = q; allowance = allowance; len = length query })
 read-write-query measure p q allowance query room i j k a b h r =

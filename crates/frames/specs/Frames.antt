@@ -3,6 +3,7 @@
 -- Assumes nothing.
 use mathlib.Core.Bool.{true, false}
 use mathlib.Core.List.{List, [], _∷_}
+use Prim.Native.Nat.{ℕ}
 use Rattle.layouts.specs.declared.Layout.{Layout}
 use Rattle.layouts.specs.declared.Reading.{Reading}
 use Rattle.layouts.specs.Layouts.{refusedWith}
@@ -40,6 +41,16 @@ refusalFrame = record { kind = 0x58; widths = 1 ∷ 4 ∷ []; named = false }
 -- all of them
 abbrev pub layouts : List Layout
 layouts = nameFrame ∷ queryFrame ∷ rowFrame ∷ endFrame ∷ refusalFrame ∷ []
+
+-- how long a 52 line is, a 45 line and a 58 line, their line feed included
+abbrev pub rowLength : ℕ
+rowLength = 11
+
+abbrev pub endLength : ℕ
+endLength = 23
+
+abbrev pub refusalLength : ℕ
+refusalLength = 13
 
 -- ---- the answers of the five readers, set out
 

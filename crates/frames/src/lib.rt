@@ -38,6 +38,13 @@ const REFUSAL: Layout = Layout {
     named: false,
 };
 
+// How long a 52 line is, a 45 line and a 58 line, their line feed included.
+pub const ROW_LENGTH: usize = 11;
+
+pub const END_LENGTH: usize = 23;
+
+pub const REFUSAL_LENGTH: usize = 13;
+
 // What reading a 4E line answers.
 pub struct NameRead {
     pub number: u8,

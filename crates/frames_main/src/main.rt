@@ -30,22 +30,22 @@ fn written(w: Written, out: [u8; 640], room: usize) {
     text(b"\n");
 }
 
-fn put_name(room: usize, r: NameRead, name: [u8; 255]) {
+fn put_name(room: usize, r: NameRead, name: [u8; layouts::LONGEST_NAME]) {
     let mut out = [46u8; 640];
     let len = r.len;
     if room <= 640 {
-        if len <= 255 {
+        if len <= layouts::LONGEST_NAME {
             let w = frames::write_name(&mut out[0..room], r.id, &name[0..len]);
             written(w, out, room);
         }
     }
 }
 
-fn put_query(room: usize, r: QueryRead, query: [u8; 255]) {
+fn put_query(room: usize, r: QueryRead, query: [u8; layouts::LONGEST_NAME]) {
     let mut out = [46u8; 640];
     let len = r.len;
     if room <= 640 {
-        if len <= 255 {
+        if len <= layouts::LONGEST_NAME {
             let w = frames::write_query(
                 &mut out[0..room],
                 r.measure,
@@ -112,12 +112,12 @@ fn show_query(r: QueryRead, small: [u8; 8]) {
     buffer(r.len, small);
 }
 
-// A name is read into 8 bytes, and again into 255 for the writer, which is lent the line's length and then one byte less.
+// A name is read into 8 bytes, and again into a buffer of the longest name for the writer, which is lent the line's length and then one byte less.
 fn name(line: &[u8]) {
     let mut small = [46u8; 8];
     let r = frames::read_name(line, &mut small);
     show_name(r, small);
-    let mut large = [46u8; 255];
+    let mut large = [46u8; layouts::LONGEST_NAME];
     let s = frames::read_name(line, &mut large);
     let n = line.len();
     if s.number == 0 && 0 < n {
@@ -130,7 +130,7 @@ fn query(line: &[u8]) {
     let mut small = [46u8; 8];
     let r = frames::read_query(line, &mut small);
     show_query(r, small);
-    let mut large = [46u8; 255];
+    let mut large = [46u8; layouts::LONGEST_NAME];
     let s = frames::read_query(line, &mut large);
     let n = line.len();
     if s.number == 0 && 0 < n {
@@ -150,8 +150,8 @@ fn row(line: &[u8]) {
         RowRead::Row { id, shared, size } => {
             four(0, id as u64, shared as u64, size as u64);
             text(b"\n");
-            put_row(11, id, shared, size);
-            put_row(10, id, shared, size);
+            put_row(frames::ROW_LENGTH, id, shared, size);
+            put_row(frames::ROW_LENGTH - 1, id, shared, size);
         }
         RowRead::Malformed => malformed(),
     }
@@ -169,8 +169,8 @@ fn end(line: &[u8]) {
             number(0);
             four(rows as u64, touches as u64, p as u64, q as u64);
             text(b"\n");
-            put_end(23, rows, touches, p, q);
-            put_end(22, rows, touches, p, q);
+            put_end(frames::END_LENGTH, rows, touches, p, q);
+            put_end(frames::END_LENGTH - 1, rows, touches, p, q);
         }
         EndRead::Malformed => malformed(),
     }
@@ -187,8 +187,8 @@ fn refusal(line: &[u8]) {
             number(no as u64);
             number(touches as u64);
             text(b"\n");
-            put_refusal(13, no, touches);
-            put_refusal(12, no, touches);
+            put_refusal(frames::REFUSAL_LENGTH, no, touches);
+            put_refusal(frames::REFUSAL_LENGTH - 1, no, touches);
         }
         RefusalRead::Malformed => malformed(),
     }
@@ -215,9 +215,9 @@ fn lines(input: &[u8]) {
     }
 }
 
-// A name of 256 bytes is refused with 2, with room for its line and without.
+// A name one byte too long is refused with 2, with room for its line and without.
 fn long_name(room: usize) {
-    let long = [65u8; 256];
+    let long = [65u8; layouts::LONGEST_NAME + 1];
     let mut out = [46u8; 640];
     if room <= 640 {
         let w = frames::write_name(&mut out[0..room], 1, &long);
@@ -226,7 +226,7 @@ fn long_name(room: usize) {
 }
 
 fn long_query(room: usize) {
-    let long = [65u8; 256];
+    let long = [65u8; layouts::LONGEST_NAME + 1];
     let mut out = [46u8; 640];
     if room <= 640 {
         let w = frames::write_query(&mut out[0..room], 1, 2, 3, 4, &long);

@@ -17,13 +17,13 @@ use Rattle.hex.proofs.Lines.{take-bytes, drop-bytes, length-bytes, well-formed-
 use Rattle.hex.proofs.Numbers.{length-bytes-for, bytes-for-bytes, number-bytes, bytes-number}
 use Rattle.layouts.specs.declared.Layout.{Layout}
 use Rattle.layouts.specs.declared.Reading.{Reading}
-use Rattle.layouts.specs.Layouts.{headSize, fieldBytes, nameBytes, lineOf, FieldsFit, Fitting, nameSize, laidOut, isFrame, fieldsOf, fieldsIn, nameIn, acceptedAs, refusedWith, readOf, bufferOf}
+use Rattle.layouts.specs.Layouts.{headSize, fieldBytes, nameBytes, lineOf, FieldsFit, Fitting, nameSize, laidOut, isFrame, fieldsOf, fieldsIn, nameIn, acceptedAs, refusedWith, readOf, bufferOf, longestName}
 use Rattle.layouts.proofs.Layouts.{length-field-bytes, fields-fit, size-named, frame-well-formed, frame-kind, frame-length, name-plain, name-named, length-name, read-zero, read-malformed, read-good, buffer-good}
 
 -- ---- what fits
 
--- the fields of a layout with a name, and any name of at most 255 bytes
-pub fitting-named : (y : Layout) (f name : List ℕ) → y .named ≡ true → y .kind < 256 → FieldsFit (y .widths) f → Bytes name → length name ≤ 255 → Fitting y f name
+-- the fields of a layout with a name, and any name that is not too long
+pub fitting-named : (y : Layout) (f name : List ℕ) → y .named ≡ true → y .kind < 256 → FieldsFit (y .widths) f → Bytes name → length name ≤ longestName → Fitting y f name
 fitting-named y f name n k h b s = record { kind = k; fields = h; bytes = b; short = s; plain = λ e. absurd (true≢false (sym n ∙ e)) }
 
 -- the fields of a layout without one
@@ -66,7 +66,7 @@ field-bytes-bytes [] f k = omega arith
 field-bytes-bytes (w ∷ ws) f k =
     append-bytes (bytesFor w (getD f 0 0)) (fieldBytes ws (drop 1 f)) (bytes-for-bytes w (getD f 0 0)) (field-bytes-bytes ws (drop 1 f)) k
 
-name-bytes-bytes : (named : Bool) (name : List ℕ) → Bytes name → length name ≤ 255 → Bytes (nameBytes named name)
+name-bytes-bytes : (named : Bool) (name : List ℕ) → Bytes name → length name ≤ longestName → Bytes (nameBytes named name)
 unfolding nameBytes
 name-bytes-bytes true name b h zero = omega arith
 name-bytes-bytes true name b h (suc k) = b k
@@ -96,7 +96,7 @@ behind k n b true name e p =
 behind k n b false name e p = sym (p refl)
 
 -- fields that do not fit their bytes are cut to them, so the line is a frame all the same
-module _ (y : Layout) (f name : List ℕ) (kind : y .kind < 256) (bytes : Bytes name) (short : length name ≤ 255) where
+module _ (y : Layout) (f name : List ℕ) (kind : y .kind < 256) (bytes : Bytes name) (short : length name ≤ longestName) where
   line-bytes : Bytes (y .kind ∷ (fieldBytes (y .widths) f ++ nameBytes (y .named) name))
   line-bytes zero = kind
   line-bytes (suc k) =
@@ -174,7 +174,7 @@ module _ (y : Layout) (l : List ℕ) (e : isFrame y l ≡ true) where
       let w = frame-well-formed y l e in
       rw (← frame-kind y l e, parts (bytesOf l) (y .widths) (y .named) (well-formed-bytes l w) (frame-length y l e)) (hex-bytes l w)
 
-  name-fits : (d : Bool) → y .named ≡ d → Bytes (nameIn y l) × (length (nameIn y l) ≤ 255)
+  name-fits : (d : Bool) → y .named ≡ d → Bytes (nameIn y l) × (length (nameIn y l) ≤ longestName)
   name-fits true q =
       let b = well-formed-bytes l (frame-well-formed y l e) in
       let n = length-name y l e q in
@@ -207,8 +207,8 @@ write-reading y l room r e z =
     let f : r .fields ≡ fieldsIn y l = ap (λ (x : Reading). x .fields) (e ∙ read-good y l room (h .0) (h .1)) in
     rw f (write-read y l (h .0))
 
--- a buffer of 255 bytes is room for every name, so that such a reading is 0 or 11
-pub read-roomy : (y : Layout) (l : List ℕ) (room : ℕ) → 255 ≤ room → readOf y l room ≡ cond (isFrame y l) (acceptedAs y l) (refusedWith y 11)
+-- a buffer of the longest name is room for every name, so that such a reading is 0 or 11
+pub read-roomy : (y : Layout) (l : List ℕ) (room : ℕ) → longestName ≤ room → readOf y l room ≡ cond (isFrame y l) (acceptedAs y l) (refusedWith y 11)
 read-roomy y l room h = by-test (isFrame y l) refl
   where
     by-test : (f : Bool) → isFrame y l ≡ f → readOf y l room ≡ cond f (acceptedAs y l) (refusedWith y 11)

@@ -19,7 +19,7 @@ use Rattle.hex.proofs.Lines.{take-bytes, drop-bytes, length-bytes, well-formed-
 use Rattle.hex.proofs.Numbers.{number-below, length-bytes-for}
 use Rattle.layouts.specs.declared.Layout.{Layout}
 use Rattle.layouts.specs.declared.Reading.{Reading}
-use Rattle.layouts.specs.Layouts.{headSize, narrow, fieldBytes, FieldsFit, nameSize, laidOut, isFrame, fieldsOf, fieldsIn, nameIn, acceptedAs, refusedWith, readOf, bufferOf, nameBytes, lineOf, writtenOf, outOf}
+use Rattle.layouts.specs.Layouts.{headSize, narrow, fieldBytes, FieldsFit, nameSize, laidOut, isFrame, fieldsOf, fieldsIn, nameIn, acceptedAs, refusedWith, readOf, bufferOf, nameBytes, lineOf, writtenOf, outOf, longestName}
 
 -- how many widths a layout has in the code, `Layout::FIELDS`
 abbrev pub most : ℕ
@@ -330,20 +330,20 @@ module _ (y : Layout) (f name : List ℕ) where
       rw (sets-hex out 0 k b, p, sets-hex out 0 (k ++ b) n) (sets-snoc out (hexOf ((k ++ b) ++ n)) _ 10 z)
 
   module _ (room : ℕ) where
-    pub written-long : 255 < length name → writtenOf y f name room ≡ record { number = 2; len = 0 }
+    pub written-long : longestName < length name → writtenOf y f name room ≡ record { number = 2; len = 0 }
     unfolding writtenOf
     written-long h = rw (lt-ltb _ _ h)
 
-    pub written-full : length name ≤ 255 → room < length (lineOf y f name) → writtenOf y f name room ≡ record { number = 8; len = 0 }
+    pub written-full : length name ≤ longestName → room < length (lineOf y f name) → writtenOf y f name room ≡ record { number = 8; len = 0 }
     unfolding writtenOf
     written-full h r = rw (le-ltb _ _ h, lt-leb _ _ r)
 
-    pub written-good : length name ≤ 255 → length (lineOf y f name) ≤ room → writtenOf y f name room ≡ record { number = 0; len = length (lineOf y f name) }
+    pub written-good : length name ≤ longestName → length (lineOf y f name) ≤ room → writtenOf y f name room ≡ record { number = 0; len = length (lineOf y f name) }
     unfolding writtenOf
     written-good h r = rw (le-ltb _ _ h, le-leb _ _ r)
 
   module _ (out : List ℕ) where
-    pub out-good : length name ≤ 255 → length (lineOf y f name) ≤ length out → outOf y f name out ≡ sets out 0 (lineOf y f name)
+    pub out-good : length name ≤ longestName → length (lineOf y f name) ≤ length out → outOf y f name out ≡ sets out 0 (lineOf y f name)
     unfolding outOf
     out-good h r = rw (written-good (length out) h r) (sym (sets-front out (lineOf y f name) r))
 

@@ -46,12 +46,16 @@ FieldsFit [] (n ∷ f) = ⊥
 FieldsFit (w ∷ ws) [] = ⊥
 FieldsFit (w ∷ ws) (n ∷ f) = (n < 256 ^ w) × FieldsFit ws f
 
--- the fields and the name fit the layout: a name has at most 255 bytes, and none in a layout without a name
+-- the most bytes that a frame's name has: its length is one byte
+abbrev pub longestName : ℕ
+longestName = 255
+
+-- the fields and the name fit the layout: a name is not too long, and has no byte in a layout without a name
 pub record Fitting (y : Layout) (f name : List ℕ) : Type 0 where
   pub kind : y .kind < 256
   pub fields : FieldsFit (y .widths) f
   pub bytes : Bytes name
-  pub short : length name ≤ 255
+  pub short : length name ≤ longestName
   pub plain : y .named ≡ false → name ≡ []
 
 -- ---- a line
@@ -105,10 +109,10 @@ bufferOf y line buffer =
 
 -- ---- writing
 
--- what writing answers where the line has the room: 2 where the name is longer than 255 bytes, then 8 where the line is too long
+-- what writing answers where the line has the room: 2 where the name is too long, then 8 where the line is too long
 unfoldable pub writtenOf : Layout → List ℕ → List ℕ → ℕ → Written
 writtenOf y f name room =
-    cond (ltb 255 (length name))
+    cond (ltb longestName (length name))
     (record { number = 2; len = 0 })
     (cond (leb (length (lineOf y f name)) room)
     (record { number = 0; len = length (lineOf y f name) })

@@ -5,7 +5,10 @@ ghost use Prim.Native.Nat.{_+_, _*_, _≤_, _<_};
 ghost use lib.ListN.{length};
 ghost use lib.Seq.{sets};
 ghost use Rattle.hex.specs.Lines.{hexOf};
-ghost use Rattle.layouts.specs.Layouts.{headSize, narrow, fieldBytes, nameBytes, lineOf, isFrame, fieldsIn, nameIn, readOf, refusedWith, bufferOf, writtenOf, outOf};
+ghost use Rattle.layouts.specs.Layouts.{headSize, narrow, fieldBytes, nameBytes, lineOf, isFrame, fieldsIn, nameIn, readOf, refusedWith, bufferOf, writtenOf, outOf, longestName};
+
+// The most bytes that a frame's name has: its length is one byte.
+pub const LONGEST_NAME: usize = 255;
 
 // A layout: the kind, the widths of the fields in bytes, and whether a name follows. A width of 0 is no field.
 pub struct Layout {
@@ -158,7 +161,7 @@ fn put_fields(out: &mut [u8], layout: Layout, fields: [u32; Layout::FIELDS])
 
 // Writes the name behind its length from index `at` on, where the layout has a name.
 fn put_name(out: &mut [u8], at: usize, named: bool, name: &[u8])
-    requires { ⌜ (length (now name) ≤ 255) × (at + 2 * length (nameBytes named (now name)) ≤ length (now out)) ⌝ }
+    requires { ⌜ (length (now name) ≤ longestName) × (at + 2 * length (nameBytes named (now name)) ≤ length (now out)) ⌝ }
     ensures { λ _. ⌜ now (out .exit) ≡ sets (now (out .entry)) at (hexOf (nameBytes named (now (name .entry)))) ⌝ }
 {
     if !named {
@@ -170,7 +173,7 @@ fn put_name(out: &mut [u8], at: usize, named: bool, name: &[u8])
 
 // How long the line of a frame is, with a name of n bytes.
 fn line_len(layout: Layout, n: usize) -> usize
-    requires { ⌜ n ≤ 255 ⌝ }
+    requires { ⌜ n ≤ longestName ⌝ }
     ensures { λ r. ⌜ (r ≡ 2 * (headSize layout + cond (layout .named) (1 + n) 0) + 1) × (r ≤ 16384) ⌝ }
 {
     let head = head_size(layout);
@@ -182,7 +185,7 @@ fn line_len(layout: Layout, n: usize) -> usize
 
 // Writes the line of a frame at the start of the buffer, which has the room.
 fn put_line(out: &mut [u8], layout: Layout, fields: [u32; Layout::FIELDS], name: &[u8])
-    requires { ⌜ (narrow (layout .widths) ≡ true) × (length (now name) ≤ 255) × (length (lineOf layout fields (now name)) ≤ length (now out)) ⌝ }
+    requires { ⌜ (narrow (layout .widths) ≡ true) × (length (now name) ≤ longestName) × (length (lineOf layout fields (now name)) ≤ length (now out)) ⌝ }
     ensures { λ _. ⌜ now (out .exit) ≡ sets (now (out .entry)) 0 (lineOf layout fields (now (name .entry))) ⌝ }
 {
     let head = head_size(layout);
@@ -199,7 +202,7 @@ pub fn write(out: &mut [u8], layout: Layout, fields: [u32; Layout::FIELDS], name
     ensures { λ r. ⌜ r ≡ writtenOf layout fields (now (name .entry)) (length (now (out .entry))) ⌝ }
     ensures { λ _. ⌜ now (out .exit) ≡ outOf layout fields (now (name .entry)) (now (out .entry)) ⌝ }
 {
-    if 255 < name.len() {
+    if LONGEST_NAME < name.len() {
         return Written { number: 2, len: 0 };
     }
     let len = line_len(layout, name.len());

@@ -49,7 +49,7 @@ good-name s g = by-tests (eqb (length s) 0) refl (ltb longest (length s)) refl (
     by-tests false p false q true r h = absurd (omega arith)
     by-tests false p false q false r h =
         let n : length s ≡ 0 → ⊥ = eqb-false (length s) 0 p in
-        let l : length s ≤ 64 = ltb-false longest (length s) q in
+        let l : length s ≤ longest = ltb-false longest (length s) q in
         (omega arith, l, refl)
 
 -- ---- how equal values are numbered
@@ -139,14 +139,14 @@ features-refused s n = rw (ne-eqb (judgeOf s) 0 n)
 pub length-features : (s : List ℕ) → judgeOf s ≡ 0 → length (featuresOf s) ≡ length s + 2
 length-features s e = ap length (features-good s e) ∙ length-features-by gramLength characters s
 
--- and so from 3 to 66
+-- and so from 3 to the most
 pub size-within : (s : List ℕ) → judgeOf s ≡ 0 → (3 ≤ length (featuresOf s)) × (length (featuresOf s) ≤ mostFeatures)
 size-within s e =
     let n = length-features s e in
     let g = good-name s e in
     (omega arith, omega arith)
 
--- of any string, never more than 66
+-- of any string, never more than the most
 pub size-most : (s : List ℕ) → length (featuresOf s) ≤ mostFeatures
 size-most s =
     ⊎-elim
@@ -210,7 +210,7 @@ feature-fits s b i =
         rw (getD-tabulate (numbered (gramAt gramLength characters s)) (sizeOf gramLength (length s)) i 0 h) (omega arith))
         (le-or-lt (sizeOf gramLength (length s)) i)
 
--- its number is at least 1 and at most 66
+-- its number is at least 1 and at most mostFeatures
 pub number-most : (s : List ℕ) → judgeOf s ≡ 0 → (i : ℕ) → i < length (featuresOf s)
     → (1 ≤ getD (featuresOf s) i 0 % numbers) × (getD (featuresOf s) i 0 % numbers ≤ mostFeatures)
 unfolding featuresBy numbered

@@ -5,7 +5,7 @@ ghost use Prim.Native.Nat.{ℕ, _+_, _/_, _%_, _≤_, _<_};
 ghost use lib.ListN.{length, getD};
 ghost use Rattle.laws.specs.Lists.{member};
 ghost use Rattle.names.specs.Names.{judgeOf};
-ghost use Rattle.names.specs.Features.{padded, gramAt, timesIn, featuresOf, gramLength, characters};
+ghost use Rattle.names.specs.Features.{padded, gramAt, timesIn, featuresOf, gramLength, characters, mostFeatures};
 ghost use Rattle.names.specs.Set.{filled, marks, Ends};
 
 // The most bytes that a name has.
@@ -18,7 +18,8 @@ pub struct FeatureSet {
 }
 
 impl FeatureSet {
-    pub const CAPACITY: usize = 66;
+    // A feature for each byte, and two more.
+    pub const CAPACITY: usize = LONGEST + 2;
 
     // The set that holds nothing.
     pub fn empty() -> Self
@@ -84,7 +85,7 @@ fn character_at(name: &[u8], k: usize) -> u64
 
 // The gram at place i, from one whose last two characters are its first two.
 fn next_gram(name: &[u8], gram: u64, i: usize) -> u64
-    requires { ⌜ (i < 66) × Ends (now name) i gram ⌝ }
+    requires { ⌜ (i < mostFeatures) × Ends (now name) i gram ⌝ }
     ensures { λ r. ⌜ (r ≡ gramAt gramLength characters (now (name .entry)) i) × (r < 16777216) × Ends (now (name .entry)) (i + 1) r ⌝ }
 {
     gram % 65536 * 256 + character_at(name, i + 2)
@@ -92,7 +93,7 @@ fn next_gram(name: &[u8], gram: u64, i: usize) -> u64
 
 // How many of the first k features are of the gram.
 fn times_in(items: &[u64], gram: u64, k: usize) -> u64
-    requires { ⌜ (k ≤ length (now items)) × (k ≤ 66) ⌝ }
+    requires { ⌜ (k ≤ length (now items)) × (k ≤ mostFeatures) ⌝ }
     ensures { λ r. ⌜ (r ≡ timesIn (λ (j : ℕ). getD (now (items .entry)) j 0 / 256) gram k) × (r ≤ k) ⌝ }
 {
     let mut n: u64 = 0;
@@ -115,7 +116,7 @@ fn mark_place(gram: u64) -> usize
 
 // As `times_in`, where a gram that is among the first k features has its mark: without one there is nothing to count.
 fn times_marked(items: &[u64], marked: &[u8], gram: u64, k: usize) -> u64
-    requires { ⌜ (k ≤ length (now items)) × (k ≤ 66) × (length (now marked) ≡ marks) × (getD (now marked) (gram % marks) 0 ≡ 0 → timesIn (λ (j : ℕ). getD (now items) j 0 / 256) gram k ≡ 0) ⌝ }
+    requires { ⌜ (k ≤ length (now items)) × (k ≤ mostFeatures) × (length (now marked) ≡ marks) × (getD (now marked) (gram % marks) 0 ≡ 0 → timesIn (λ (j : ℕ). getD (now items) j 0 / 256) gram k ≡ 0) ⌝ }
     ensures { λ r. ⌜ (r ≡ timesIn (λ (j : ℕ). getD (now (items .entry)) j 0 / 256) gram k) × (r ≤ k) ⌝ }
 {
     if marked[mark_place(gram)] == 0 {

@@ -11,19 +11,19 @@ fn show(name: &[u8]) {
 }
 
 fn main() {
-    // an empty name, one byte, 64 bytes, 65 bytes
+    // an empty name, one byte, the most bytes, one more
     show(b"");
     show(b"A");
-    show(&[65u8; 64]);
-    show(&[65u8; 65]);
+    show(&[65u8; names::LONGEST]);
+    show(&[65u8; names::LONGEST + 1]);
     // a 0 byte alone, first, in the middle, last
     show(&[0u8]);
     show(&[0u8, 65, 66]);
     show(&[65u8, 0, 66]);
     show(&[65u8, 66, 0]);
-    // 64 bytes of 0, and 65: too long comes before the 0 byte
-    show(&[0u8; 64]);
-    show(&[0u8; 65]);
+    // the most bytes, all 0, and one more: too long comes before the 0 byte
+    show(&[0u8; names::LONGEST]);
+    show(&[0u8; names::LONGEST + 1]);
     // every other byte is a character like any: 1, 127, 255
     show(&[1u8, 127, 255]);
 }

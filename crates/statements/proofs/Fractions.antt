@@ -22,7 +22,7 @@ use Rattle.search.specs.Method.{listsFor, touchesAt, sizesEnd, touchesOfSize, t
 use Rattle.search.specs.Answers.{questionOf, refusalOf, searchGoodOf, searchOf, givenBy, columnsOf}
 use Rattle.search.specs.declared.Answer.{Answer}
 use Rattle.search.specs.declared.Answer.the-variants.{Found, Refused}
-use Rattle.layouts.specs.Layouts.{Fitting, lineOf}
+use Rattle.layouts.specs.Layouts.{Fitting, lineOf, longestName}
 use Rattle.layouts.proofs.Laws.{fitting-named, frame-written, fields-written, name-written}
 use Rattle.frames.specs.Frames.{queryFrame}
 use Rattle.answers.specs.Output.{answerText, rowsLent, answerOf}
@@ -114,7 +114,7 @@ linesFrom : List ℕ → List ℕ → Answer → List ℕ → List ℕ
 linesFrom w query r places = answerText r (columnsOf w (featuresOf query) places)
 
 -- a 51 line that was written is answered by the search that its fields and its query ask for
-answer-line : (w query : List ℕ) (m p q allowance : ℕ) → Bytes query → length query ≤ 255 → m < 256 → allowance < 4294967296 → GoodThreshold p q
+answer-line : (w query : List ℕ) (m p q allowance : ℕ) → Bytes query → length query ≤ longestName → m < 256 → allowance < 4294967296 → GoodThreshold p q
     → answerOf w (lineOf queryFrame (m ∷ p ∷ q ∷ allowance ∷ []) query)
     ≡ linesFrom w query (searchOf query m p q allowance w rowsLent)
     (givenBy (searchOf query m p q allowance w rowsLent) (answersOf w m p q (featuresOf query)))

@@ -23,10 +23,10 @@ use Rattle.likeness.specs.Least.{leastCount}
 use Rattle.likeness.specs.Fractions.{FractionLe, numerator, denominator, raised}
 use Rattle.likeness.specs.Terms.{lowestTerms}
 use Rattle.words.specs.Words.{nameCount, nameId, nameSize, total}
-use Rattle.index.specs.Good.{Good}
+use Rattle.index.specs.Good.{Good, mostPostings}
 use Rattle.postings.specs.Built.{wordsOf}
 use Rattle.lists.specs.Lists.{listIn, featuresIn}
-use Rattle.layouts.specs.Layouts.{isFrame, nameIn, lineOf, readOf, bufferOf}
+use Rattle.layouts.specs.Layouts.{isFrame, nameIn, lineOf, readOf, bufferOf, longestName}
 use Rattle.frames.specs.Frames.{nameFrame, queryFrame, rowFrame, endFrame, refusalFrame, layouts, nameOut, queryOut, rowOut, endOut, refusalOut}
 use Rattle.frames.specs.declared.NameRead.{NameRead}
 use Rattle.frames.specs.declared.QueryRead.{QueryRead}
@@ -245,7 +245,7 @@ pub record Demand3 {A : Type 0} (s : Lending A) (a : Question A) : Type 0 where
       → touchesOfSize (a .words) (a .measure) (a .p) (a .q) (featuresOf (a .query)) y ≡ 0
   -- all sizes together at most x times the names, and at most 16,896
   pub in-all : steps a ≤ length (featuresOf (a .query)) * nameCount (a .words)
-  pub most : steps a ≤ 16896
+  pub most : steps a ≤ mostPostings
   -- S is the smallest total of any x − t + 1 of the query's features
   pub smallest : (y : ℕ) (chosen : ℕ → Bool)
       → countOf chosen (featuresOf (a .query)) ≡ signatures (length (featuresOf (a .query))) (leastAt a y)
@@ -296,7 +296,7 @@ Fractions = Every SameFraction
 -- and one answer in frames: two 51 lines that differ in the threshold alone, and there not in the fraction, are answered with the same lines,
 -- from any words. Proved by `same-frames`
 abbrev pub SameFrames : Type 0
-SameFrames = (words query : List ℕ) (measure p q p′ q′ allowance : ℕ) → Bytes query → length query ≤ 255 → measure < 256 → allowance < 4294967296
+SameFrames = (words query : List ℕ) (measure p q p′ q′ allowance : ℕ) → Bytes query → length query ≤ longestName → measure < 256 → allowance < 4294967296
     → GoodThreshold p q → GoodThreshold p′ q′ → p * q′ ≡ p′ * q
     → answerOf words (lineOf queryFrame (measure ∷ p ∷ q ∷ allowance ∷ []) query)
     ≡ answerOf words (lineOf queryFrame (measure ∷ p′ ∷ q′ ∷ allowance ∷ []) query)
@@ -393,17 +393,17 @@ EndToEnd = (register words : List ℕ)
 
 -- what is written reads back, and a good line that was read is written again: proved by `frames`
 pub record Frames : Type 0 where
-  pub name-back : (id : ℕ) (name : List ℕ) (room : ℕ) → id < 65536 → Bytes name → length name ≤ 255 → length name ≤ room
+  pub name-back : (id : ℕ) (name : List ℕ) (room : ℕ) → id < 65536 → Bytes name → length name ≤ longestName → length name ≤ room
       → readOf nameFrame (lineOf nameFrame (id ∷ []) name) room ≡ nameOut (record { number = 0; id = id; len = length name })
   pub query-back : (measure p q allowance : ℕ) (query : List ℕ) (room : ℕ) → measure < 256 → p < 65536 → q < 65536 → allowance < 4294967296
-      → Bytes query → length query ≤ 255 → length query ≤ room
+      → Bytes query → length query ≤ longestName → length query ≤ room
       → readOf queryFrame (lineOf queryFrame (measure ∷ p ∷ q ∷ allowance ∷ []) query) room
       ≡ queryOut (record { number = 0; measure = measure; p = p; q = q; allowance = allowance; len = length query })
   -- and the lent buffer starts with the name or the query; what stood behind that is kept
-  pub name-buffer : (id : ℕ) (name buffer : List ℕ) → id < 65536 → Bytes name → length name ≤ 255 → length name ≤ length buffer
+  pub name-buffer : (id : ℕ) (name buffer : List ℕ) → id < 65536 → Bytes name → length name ≤ longestName → length name ≤ length buffer
       → bufferOf nameFrame (lineOf nameFrame (id ∷ []) name) buffer ≡ name ++ drop (length name) buffer
   pub query-buffer : (measure p q allowance : ℕ) (query buffer : List ℕ) → measure < 256 → p < 65536 → q < 65536 → allowance < 4294967296
-      → Bytes query → length query ≤ 255 → length query ≤ length buffer
+      → Bytes query → length query ≤ longestName → length query ≤ length buffer
       → bufferOf queryFrame (lineOf queryFrame (measure ∷ p ∷ q ∷ allowance ∷ []) query) buffer ≡ query ++ drop (length query) buffer
   pub row-back : (id shared size : ℕ) → id < 65536 → shared < 256 → size < 256
       → readOf rowFrame (lineOf rowFrame (id ∷ shared ∷ size ∷ []) []) 0 ≡ rowOut (Row id shared size)

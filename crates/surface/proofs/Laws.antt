@@ -13,7 +13,7 @@ use lib.Dec.{eqb, leb, ltb}
 use Rattle.names.specs.Features.{featuresOf}
 use Rattle.likeness.specs.Terms.{lowestTerms}
 use Rattle.layouts.specs.declared.Layout.{Layout}
-use Rattle.layouts.specs.Layouts.{lineOf, readOf, writtenOf}
+use Rattle.layouts.specs.Layouts.{lineOf, readOf, writtenOf, longestName}
 use Rattle.layouts.proofs.Layouts.{read-cases}
 use Rattle.index.specs.Good.{goodOf}
 use Rattle.lists.specs.Part.{none}
@@ -82,7 +82,7 @@ name-within y line room = read-cases y line room (λ r. r .len ≤ room) (λ e h
 -- a line that was written lies within its buffer
 pub line-within : (y : Layout) (f name : List ℕ) (room : ℕ) → writeAnswer (writtenOf y f name room) .len ≤ room
 unfolding writtenOf
-line-within y f name room = by-test (ltb 255 (length name)) (leb (length (lineOf y f name)) room) refl
+line-within y f name room = by-test (ltb longestName (length name)) (leb (length (lineOf y f name)) room) refl
   where
     by-test : (a b : Bool) → leb (length (lineOf y f name)) room ≡ b
         → writeAnswer (cond a (record { number = 2; len = 0 }) (cond b (record { number = 0; len = length (lineOf y f name) }) (record { number = 8; len = 0 }))) .len

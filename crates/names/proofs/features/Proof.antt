@@ -7,7 +7,7 @@ use borrow.Author.Needs.{needs}
 use lib.ListN.{length, replicate, length-set}
 use Rattle.laws.specs.Lists.{tabulate}
 use Rattle.laws.proofs.Lists.{tabulate-nil}
-use Rattle.names.specs.Features.{gramAt, numbered}
+use Rattle.names.specs.Features.{gramAt, numbered, gramLength, characters, mostFeatures}
 use Rattle.names.specs.Set.{filled, marks, Ends}
 use Rattle.names.specs.declared.FeatureSet.{FeatureSet}
 use Rattle.names.proofs.Laws.{good-name, features-refused, features-good}
@@ -17,7 +17,7 @@ use Rattle.names.proofs.features.Tie as tie
 
 abbrev Inv-loop : tie.InvT-loop
 Inv-loop name set₀ marked₀ size gram₀ i₀ set marked gram i =
-    (i ≤ size) × (size ≤ 66) × (set .items ≡ tabulate (numbered (gramAt 3 256 name)) i ++ replicate (66 - i) 0) × (length marked ≡ marks) × Marked (gramAt 3 256 name) i marked × Ends name i gram
+    (i ≤ size) × (size ≤ mostFeatures) × (set .items ≡ tabulate (numbered (gramAt gramLength characters name)) i ++ replicate (mostFeatures - i) 0) × (length marked ≡ marks) × Marked (gramAt gramLength characters name) i marked × Ends name i gram
 
 abbrev μ-loop : tie.MeasureT-loop
 μ-loop name set₀ marked₀ size gram₀ i₀ set marked gram i = size - i
@@ -43,9 +43,9 @@ loop-holds c =
       omega arith,
       omega arith,
       ap (λ (a : FeatureSet). a .items) (c .before .before .empty .ensures)
-          ∙ ap (λ (l : List ℕ). l ++ replicate 66 0) (sym (tabulate-nil (numbered (gramAt 3 256 name)))),
+          ∙ ap (λ (l : List ℕ). l ++ replicate mostFeatures 0) (sym (tabulate-nil (numbered (gramAt gramLength characters name)))),
       refl,
-      marked-nil (gramAt 3 256 name) (replicate marks 0),
+      marked-nil (gramAt gramLength characters name) (replicate marks 0),
       ends-nil name,
     )
 
@@ -62,7 +62,7 @@ times-marked-requires c κs =
       omega arith,
       omega arith,
       l .inv .3,
-      marked-none (gramAt 3 256 name) 66 (l .i) (l .set .items) (l .marked) (c .before .before .before .before .next-gram .result) (omega arith) (l .inv .2) (l .inv .4),
+      marked-none (gramAt gramLength characters name) mostFeatures (l .i) (l .set .items) (l .marked) (c .before .before .before .before .next-gram .result) (omega arith) (l .inv .2) (l .inv .4),
     )
 
 add-number : tie.Need-add-number Inv-loop μ-loop
@@ -100,9 +100,9 @@ loop-again c =
     let t = c .before .times-marked in (
       omega arith,
       l .loop .inv .1,
-      next-feature (gramAt 3 256 name) 66 (l .loop .i) (l .loop .set .items) (g .result) (t .result) (omega arith) (omega arith) (l .loop .inv .2) (g .ensures .0) (t .ensures .0),
+      next-feature (gramAt gramLength characters name) mostFeatures (l .loop .i) (l .loop .set .items) (g .result) (t .result) (omega arith) (omega arith) (l .loop .inv .2) (g .ensures .0) (t .ensures .0),
       simp length-set (l .loop .inv .3),
-      marked-step (gramAt 3 256 name) (l .loop .i) (l .loop .marked) (c .mark-place .result) (l .loop .inv .3) (c .mark-place .ensures .0 ∙ ap (λ (x : ℕ). x % marks) (g .ensures .0)) (l .loop .inv .4),
+      marked-step (gramAt gramLength characters name) (l .loop .i) (l .loop .marked) (c .mark-place .result) (l .loop .inv .3) (c .mark-place .ensures .0 ∙ ap (λ (x : ℕ). x % marks) (g .ensures .0)) (l .loop .inv .4),
       g .ensures .2,
     )
 
@@ -112,7 +112,7 @@ returns-2 c =
     let name = b .before .before .before .before .args .name .now in
     let g = sym (b .before .judge .ensures) ∙ b .if1 .left in
     let e : c .before .loop .i ≡ length name + 2 = omega arith in
-    filled-whole name (c .before .loop .set) (length name + 2) refl (c .before .loop .inv .2 ∙ ap (λ (n : ℕ). tabulate (numbered (gramAt 3 256 name)) n ++ replicate (66 - n) 0) e)
+    filled-whole name (c .before .loop .set) (length name + 2) refl (c .before .loop .inv .2 ∙ ap (λ (n : ℕ). tabulate (numbered (gramAt gramLength characters name)) n ++ replicate (mostFeatures - n) 0) e)
     ∙ ap filled (sym (features-good name g))
 
 pub features-spec : {M : Type 1} → statement M
