@@ -213,7 +213,7 @@ fn answer_with(
 }
 
 // Writes the lines that a query line is answered with, where they fit, from words that are known to be good.
-pub fn answer_good(line: &[u8], words: &[u32], out: &mut [u8]) -> Written
+fn answer_good(line: &[u8], words: &[u32], out: &mut [u8]) -> Written
     requires { ⌜ Good (now words) ⌝ }
     ensures { λ r. ⌜ (r ≡ fittingOf (answerOf (now (words .entry)) (now (line .entry))) (length (now (out .entry)))) × (now (out .exit) ≡ fittedOf (answerOf (now (words .entry)) (now (line .entry))) (now (out .entry))) ⌝ }
 {
