@@ -1,4 +1,5 @@
 pub mod Candidates
+pub mod Spending
 pub mod Tables
 pub mod Testing
 pub mod Counts

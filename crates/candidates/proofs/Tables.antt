@@ -4,45 +4,36 @@ use mathlib.Core.Path.{_≡_, refl, sym, ap, ap₂, _∙_}
 use mathlib.Core.Logic.{_⊎_, ⊎-elim}
 use mathlib.Core.Bool.{Bool, true, false, cond, _&&_, _||_, true≢false, false≢true}
 use mathlib.Core.List.{List, [], _∷_, _++_}
-use Prim.Native.Nat.{ℕ, zero, suc, _+_, _*_, _/_, _≤_, _<_}
+use Prim.Native.Nat.{ℕ, zero, suc, _+_, _≤_, _<_}
 use native.Mathlib.Numerals.{add-one}
 use native.Mathlib.Omega.{arith}
 use lib.ListN.{length, getD, take, set, length-set, List·getD-eq-default}
 use lib.Seq.{take-suc, take-suc-set, length-take-le, getD-set-same, getD-set-other}
 use lib.Dec.{eqb, ltb, leb}
 use borrow.Author.Tests.{eq-eqb, ne-eqb, eqb-true, eqb-false, lt-ltb, le-ltb, le-leb, lt-leb}
-use native.Mathlib.Nat.{eq-or-lt-of-le}
-use Rattle.laws.specs.Lists.{member, Distinct, countOf, tabulate}
-use Rattle.laws.proofs.Halving.{count-index, count-below-place}
+use Rattle.laws.specs.Lists.{member, Distinct, Ascending, tabulate}
+use Rattle.laws.proofs.Ascending.{ascending-at, rises-apart}
 use Rattle.laws.proofs.Lists.{eqb-same, member-append, distinct-snoc, length-tabulate, getD-tabulate, tabulate-ext}
 use Rattle.laws.proofs.Tables.{table-set, tabulate-self, length-members}
 use Rattle.laws.proofs.Order.{eq-or-ne, le-or-lt}
 use Rattle.laws.specs.Below.{countBelow}
 use Rattle.laws.proofs.Below.{count-below-fewer}
 use Rattle.index.specs.Good.{mostNames}
-use Rattle.candidates.specs.Tables.{idAt, holdsAt, Names, Named, MetBy, tallied, testedAt, tested}
+use Rattle.candidates.specs.Tables.{holdsAt, MetBy, tallied, testedAt, tested}
 
 -- ---- ids are told apart by their places
 
-pub names-apart : (ns : List ℕ) → Names ns → (i j : ℕ) → i < length ns → j < length ns → idAt ns i ≡ idAt ns j → i ≡ j
-names-apart ns n i j hi hj e =
-    ⊎-elim
-    (λ (l : i ≤ j).
-    ⊎-elim
-    (λ (q : i ≡ j). q)
-    (λ (q : i ≡ j → ⊥). let r = n .rising i j (omega arith) hj in absurd (omega arith))
-    (eq-or-ne i j))
-    (λ (l : j < i). let r = n .rising j i l hi in absurd (omega arith))
-    (le-or-lt i j)
+pub ids-apart : (ids : List ℕ) → Ascending ids → (i j : ℕ) → i < length ids → j < length ids → getD ids i 0 ≡ getD ids j 0 → i ≡ j
+ids-apart ids a = rises-apart (length ids) (λ (i : ℕ). getD ids i 0) (ascending-at ids a)
 
 -- ---- one posting tallied
 
 -- nothing is held by no postings
-pub tallied-nil : (ns l counts : List ℕ) → length counts ≡ mostNames → tallied ns (take 0 l) counts ≡ counts
+pub tallied-nil : (ids l counts : List ℕ) → length counts ≡ mostNames → tallied ids (take 0 l) counts ≡ counts
 unfolding tallied holdsAt member
-tallied-nil ns l counts e =
-    tabulate-ext (λ (i : ℕ). getD counts i 0 + cond (ltb i (length ns) && false) 1 0) (λ (i : ℕ). getD counts i 0) mostNames
-    (λ i h. zero-more (ltb i (length ns)) (getD counts i 0))
+tallied-nil ids l counts e =
+    tabulate-ext (λ (i : ℕ). getD counts i 0 + cond (ltb i (length ids) && false) 1 0) (λ (i : ℕ). getD counts i 0) mostNames
+    (λ i h. zero-more (ltb i (length ids)) (getD counts i 0))
     ∙ tabulate-self counts mostNames e
   where
     zero-more : (b : Bool) (c : ℕ) → c + cond (b && false) 1 0 ≡ c
@@ -50,55 +41,54 @@ tallied-nil ns l counts e =
     zero-more false c = omega arith
 
 -- which names hold after one posting more: the one whose id it is, and those that held before
-holds-more : (ns l : List ℕ) → Names ns → (k i : ℕ) → k < length l → i < length ns → idAt ns i ≡ getD l k 0
-    → (j : ℕ) → (j ≡ i → ⊥) → holdsAt ns (take (k + 1) l) j ≡ holdsAt ns (take k l) j
+holds-more : (ids l : List ℕ) → Ascending ids → (k i : ℕ) → k < length l → i < length ids → getD ids i 0 ≡ getD l k 0
+    → (j : ℕ) → (j ≡ i → ⊥) → holdsAt ids (take (k + 1) l) j ≡ holdsAt ids (take k l) j
 unfolding holdsAt member
-holds-more ns l n k i h hi e j ne =
+holds-more ids l n k i h hi e j ne =
     ⊎-elim
-    (λ (b : length ns ≤ j). rw (le-ltb j (length ns) b))
-    (λ (b : j < length ns).
-    let apart : eqb (idAt ns j) (getD l k 0) ≡ false = ne-eqb (idAt ns j) (getD l k 0) (λ q. ne (names-apart ns n j i b hi (q ∙ sym e))) in
-    ap (λ (m : Bool). ltb j (length ns) && m)
-    (ap (λ (x : ℕ). member (idAt ns j) (take x l)) (add-one k)
-    ∙ ap (member (idAt ns j)) (take-suc l k 0 h)
-    ∙ member-append (idAt ns j) (take k l) (getD l k 0 ∷ [])
-    ∙ (rw apart (or-nothing (member (idAt ns j) (take k l))))))
-    (le-or-lt (length ns) j)
+    (λ (b : length ids ≤ j). rw (le-ltb j (length ids) b))
+    (λ (b : j < length ids).
+    let apart : eqb (getD ids j 0) (getD l k 0) ≡ false = ne-eqb (getD ids j 0) (getD l k 0) (λ q. ne (ids-apart ids n j i b hi (q ∙ sym e))) in
+    ap (λ (m : Bool). ltb j (length ids) && m)
+    (ap (λ (x : ℕ). member (getD ids j 0) (take x l)) (add-one k)
+    ∙ ap (member (getD ids j 0)) (take-suc l k 0 h)
+    ∙ member-append (getD ids j 0) (take k l) (getD l k 0 ∷ [])
+    ∙ (rw apart (or-nothing (member (getD ids j 0) (take k l))))))
+    (le-or-lt (length ids) j)
   where
     or-nothing : (b : Bool) → b || false ≡ b
     or-nothing true = refl
     or-nothing false = refl
 
 -- the one whose id it is holds now
-holds-now : (ns l : List ℕ) (k i : ℕ) → k < length l → i < length ns → idAt ns i ≡ getD l k 0 → holdsAt ns (take (k + 1) l) i ≡ true
+holds-now : (ids l : List ℕ) (k i : ℕ) → k < length l → i < length ids → getD ids i 0 ≡ getD l k 0 → holdsAt ids (take (k + 1) l) i ≡ true
 unfolding holdsAt member
-holds-now ns l k i h hi e =
-    rw (lt-ltb i (length ns) hi)
-    (ap (λ (x : ℕ). member (idAt ns i) (take x l)) (add-one k)
-    ∙ ap (member (idAt ns i)) (take-suc l k 0 h)
-    ∙ member-append (idAt ns i) (take k l) (getD l k 0 ∷ [])
-    ∙ (rw (eq-eqb (idAt ns i) (getD l k 0) e) (or-all (member (idAt ns i) (take k l)))))
+holds-now ids l k i h hi e =
+    rw (lt-ltb i (length ids) hi)
+    (ap (λ (x : ℕ). member (getD ids i 0) (take x l)) (add-one k)
+    ∙ ap (member (getD ids i 0)) (take-suc l k 0 h)
+    ∙ member-append (getD ids i 0) (take k l) (getD l k 0 ∷ [])
+    ∙ (rw (eq-eqb (getD ids i 0) (getD l k 0) e) (or-all (member (getD ids i 0) (take k l)))))
   where
     or-all : (b : Bool) → b || true ≡ true
     or-all true = refl
     or-all false = refl
 
 -- one posting more: the count at its name's place is one more. The posting stood nowhere before in the list
-pub tallied-step : (ns l counts : List ℕ) → Names ns → (k i : ℕ) → k < length l → member (getD l k 0) (take k l) ≡ false
-    → i < length ns → idAt ns i ≡ getD l k 0
-    → set (tallied ns (take k l) counts) i (getD (tallied ns (take k l) counts) i 0 + 1) ≡ tallied ns (take (k + 1) l) counts
+pub tallied-step : (ids l counts : List ℕ) → length ids ≤ mostNames → Ascending ids → (k i : ℕ) → k < length l → member (getD l k 0) (take k l) ≡ false
+    → i < length ids → getD ids i 0 ≡ getD l k 0
+    → set (tallied ids (take k l) counts) i (getD (tallied ids (take k l) counts) i 0 + 1) ≡ tallied ids (take (k + 1) l) counts
 unfolding tallied holdsAt
-tallied-step ns l counts n k i h fresh hi e =
-    let few = n .few in
+tallied-step ids l counts few n k i h fresh hi e =
     let im : i < mostNames = omega arith in
-    let f : ℕ → ℕ = λ (j : ℕ). getD counts j 0 + cond (holdsAt ns (take k l) j) 1 0 in
-    let g : ℕ → ℕ = λ (j : ℕ). getD counts j 0 + cond (holdsAt ns (take (k + 1) l) j) 1 0 in
-    let before : holdsAt ns (take k l) i ≡ false = rw (e, fresh) (and-nothing (ltb i (length ns))) in
+    let f : ℕ → ℕ = λ (j : ℕ). getD counts j 0 + cond (holdsAt ids (take k l) j) 1 0 in
+    let g : ℕ → ℕ = λ (j : ℕ). getD counts j 0 + cond (holdsAt ids (take (k + 1) l) j) 1 0 in
+    let before : holdsAt ids (take k l) i ≡ false = rw (e, fresh) (and-nothing (ltb i (length ids))) in
     let was : getD (tabulate f mostNames) i 0 ≡ getD counts i 0 = getD-tabulate f mostNames i 0 im ∙ rw before (let z : getD counts i 0 + 0 ≡ getD counts i 0 = omega arith in z) in
-    let will : g i ≡ getD counts i 0 + 1 = rw (holds-now ns l k i h hi e) in
+    let will : g i ≡ getD counts i 0 + 1 = rw (holds-now ids l k i h hi e) in
     table-set (tabulate f mostNames) mostNames i (getD (tabulate f mostNames) i 0 + 1) g (length-tabulate f mostNames) im
     (will ∙ ap (λ (c : ℕ). c + 1) (sym was))
-    (λ j jm ne. getD-tabulate f mostNames j 0 jm ∙ ap (λ (b : Bool). getD counts j 0 + cond b 1 0) (sym (holds-more ns l n k i h hi e j ne)))
+    (λ j jm ne. getD-tabulate f mostNames j 0 jm ∙ ap (λ (b : Bool). getD counts j 0 + cond b 1 0) (sym (holds-more ids l n k i h hi e j ne)))
   where
     and-nothing : (b : Bool) → b && false ≡ false
     and-nothing true = refl
@@ -176,29 +166,16 @@ met-keep counts met m i v b h was one =
     by-test j true q = rw (le-leb 1 v one) (ap (λ (n : ℕ). leb 1 (getD counts n 0)) (eqb-true j i q) ∙ le-leb 1 (getD counts i 0) was)
     by-test j false q = refl
 
--- ---- a name is found by its id among the name words
-
-pub name-place : (ns : List ℕ) → Names ns → (i id : ℕ) → i < length ns → idAt ns i ≡ id → countOf (λ (y : ℕ). ltb y (id * 256)) ns ≡ i
-name-place ns n i id h e =
-    count-index (λ (y : ℕ). ltb y (id * 256)) ns
-    ∙ (count-below-place (λ (j : ℕ). ltb (getD ns j 0) (id * 256)) (length ns) i (omega arith)
-    (λ j k. let r = n .rising j i k h in lt-ltb (getD ns j 0) (id * 256) (omega arith))
-    (λ j k l.
-    ⊎-elim
-    (λ (q : i ≡ j). rw (← q) (le-ltb (getD ns i 0) (id * 256) (omega arith)))
-    (λ (q : i < j). let r = n .rising i j q l in le-ltb (getD ns j 0) (id * 256) (omega arith))
-    (eq-or-lt-of-le k)))
-
 -- counts stay small
-pub tallied-bound : (ns l counts : List ℕ) (b : ℕ) → ((i : ℕ) → getD counts i 0 ≤ b) → (i : ℕ) → getD (tallied ns l counts) i 0 ≤ b + 1
+pub tallied-bound : (ids l counts : List ℕ) (b : ℕ) → ((i : ℕ) → getD counts i 0 ≤ b) → (i : ℕ) → getD (tallied ids l counts) i 0 ≤ b + 1
 unfolding tallied
-tallied-bound ns l counts b h i =
+tallied-bound ids l counts b h i =
     ⊎-elim
     (λ (q : mostNames ≤ i).
-    let z = List·getD-eq-default (tabulate (λ (j : ℕ). getD counts j 0 + cond (holdsAt ns l j) 1 0) mostNames) 0 {n = i} (rw length-tabulate q) in
+    let z = List·getD-eq-default (tabulate (λ (j : ℕ). getD counts j 0 + cond (holdsAt ids l j) 1 0) mostNames) 0 {n = i} (rw length-tabulate q) in
     omega arith)
     (λ (q : i < mostNames).
-    rw (getD-tabulate (λ (j : ℕ). getD counts j 0 + cond (holdsAt ns l j) 1 0) mostNames i 0 q) (by-test (holdsAt ns l i) (h i)))
+    rw (getD-tabulate (λ (j : ℕ). getD counts j 0 + cond (holdsAt ids l j) 1 0) mostNames i 0 q) (by-test (holdsAt ids l i) (h i)))
     (le-or-lt mostNames i)
   where
     by-test : (t : Bool) → getD counts i 0 ≤ b → getD counts i 0 + cond t 1 0 ≤ b + 1

@@ -1,2 +1,3 @@
 pub mod Method
+pub mod Spending
 pub mod Tables

@@ -9,26 +9,18 @@ use lib.Dec.{leb, ltb, eqb}
 use Rattle.laws.specs.Lists.{member, Distinct, Ascending, tabulate, sumOf}
 use Rattle.laws.specs.Below.{sumBelow, countBelow}
 use Rattle.index.specs.Good.{mostNames}
+use Rattle.candidates.specs.Spending.{Spending}
 use Rattle.candidates.specs.Method.{heldBy, signatures, remains, laterCount}
 
--- ---- the names, as their words
-
--- the id of the name at place i; past the last name the id is 0
-abbrev pub idAt : List ℕ → ℕ → ℕ
-idAt ns i = getD ns i 0 / 256
+-- ---- the names, by their ids in order
 
 -- whether the list holds the name at place i; never past the last name
 unfoldable pub holdsAt : List ℕ → List ℕ → ℕ → Bool
-holdsAt ns l i = ltb i (length ns) && member (idAt ns i) l
+holdsAt ids l i = ltb i (length ids) && member (getD ids i 0) l
 
--- the names have ascending ids and are not too many
-pub record Names (ns : List ℕ) : Type 0 where
-  pub few : length ns ≤ mostNames
-  pub rising : (i j : ℕ) → i < j → j < length ns → idAt ns i < idAt ns j
-
--- each id of the list is one of the names
-abbrev pub Named : List ℕ → List ℕ → Type 0
-Named ns l = (id : ℕ) → member id l ≡ true → (i : ℕ) × (i < length ns) × (idAt ns i ≡ id)
+-- each id of the list is one of the names'
+abbrev pub Known : List ℕ → List ℕ → Type 0
+Known ids l = (id : ℕ) → member id l ≡ true → (i : ℕ) × (i < length ids) × (getD ids i 0 ≡ id)
 
 -- ---- the candidates met
 
@@ -42,16 +34,16 @@ pub record MetBy (counts met : List ℕ) (m : ℕ) : Type 0 where
 
 -- one more at each name that the list holds
 unfoldable pub tallied : List ℕ → List ℕ → List ℕ → List ℕ
-tallied ns l counts = tabulate (λ (i : ℕ). getD counts i 0 + cond (holdsAt ns l i) 1 0) mostNames
+tallied ids l counts = tabulate (λ (i : ℕ). getD counts i 0 + cond (holdsAt ids l i) 1 0) mostNames
 
 -- the count after a test: one more where the list holds the name; 0, dropped, where that and `left` more are below `least`, or was 0
 unfoldable pub testedAt : List ℕ → List ℕ → ℕ → ℕ → List ℕ → ℕ → ℕ
-testedAt ns l left least counts i =
+testedAt ids l left least counts i =
     cond (eqb (getD counts i 0) 0) 0
-    (cond (ltb (getD counts i 0 + cond (holdsAt ns l i) 1 0 + left) least) 0 (getD counts i 0 + cond (holdsAt ns l i) 1 0))
+    (cond (ltb (getD counts i 0 + cond (holdsAt ids l i) 1 0 + left) least) 0 (getD counts i 0 + cond (holdsAt ids l i) 1 0))
 
 unfoldable pub tested : List ℕ → List ℕ → ℕ → ℕ → List ℕ → List ℕ
-tested ns l left least counts = tabulate (testedAt ns l left least counts) mostNames
+tested ids l left least counts = tabulate (testedAt ids l left least counts) mostNames
 
 -- the answers with each count that is at least 1 put at its place
 unfoldable pub kept : List ℕ → List ℕ → List ℕ
@@ -68,31 +60,31 @@ unfoldable pub cutLists : List ℕ → List ℕ → List ℕ → List (List ℕ)
 cutLists w keys starts = tabulate (cutAt w keys starts) (length keys)
 
 -- each can be cut, ascends, and holds only ids of names
-pub record Readable (w ns keys starts : List ℕ) : Type 0 where
+pub record Readable (w ids keys starts : List ℕ) : Type 0 where
   pub place : (k : ℕ) → k < length keys → getD keys k 0 % 256 < length starts
   pub short : (k : ℕ) → k < length keys → getD keys k 0 / 256 ≤ mostNames
   pub within : (k : ℕ) → k < length keys → getD starts (getD keys k 0 % 256) 0 + getD keys k 0 / 256 ≤ length w
   pub ascending : (k : ℕ) → k < length keys → Ascending (cutAt w keys starts k)
-  pub named : (k : ℕ) → k < length keys → Named ns (cutAt w keys starts k)
+  pub known : (k : ℕ) → k < length keys → Known ids (cutAt w keys starts k)
 
 -- ---- the counts of all names
 
 -- how many of the lists hold each name; 0 past the last name
 unfoldable pub heldTable : List ℕ → List (List ℕ) → List ℕ
-heldTable ns ls = tabulate (λ (i : ℕ). cond (ltb i (length ns)) (heldBy ls (idAt ns i)) 0) mostNames
+heldTable ids ls = tabulate (λ (i : ℕ). cond (ltb i (length ids)) (heldBy ls (getD ids i 0)) 0) mostNames
 
 -- whether the name at place i remains after d later features; never past the last name
 unfoldable pub remainsAt : List ℕ → List (List ℕ) → ℕ → ℕ → ℕ → Bool
-remainsAt ns ls t d i = ltb i (length ns) && remains ls t d (idAt ns i)
+remainsAt ids ls t d i = ltb i (length ids) && remains ls t d (getD ids i 0)
 
 -- the counts of those that remain after d later features; 0 of all others
 unfoldable pub remainTable : List ℕ → List (List ℕ) → ℕ → ℕ → List ℕ
-remainTable ns ls t d =
-    tabulate (λ (i : ℕ). cond (remainsAt ns ls t d i) (heldBy (take (signatures (length ls) t + d) ls) (idAt ns i)) 0) mostNames
+remainTable ids ls t d =
+    tabulate (λ (i : ℕ). cond (remainsAt ids ls t d i) (heldBy (take (signatures (length ls) t + d) ls) (getD ids i 0)) 0) mostNames
 
 -- the touches of d later features: one for each that remains before each
 unfoldable pub laterTouches : List ℕ → List (List ℕ) → ℕ → ℕ → ℕ
-laterTouches ns ls t d = sumBelow d (λ (e : ℕ). countBelow mostNames (remainsAt ns ls t e))
+laterTouches ids ls t d = sumBelow d (λ (e : ℕ). countBelow mostNames (remainsAt ids ls t e))
 
 -- ---- what the phases come to
 
@@ -100,24 +92,20 @@ laterTouches ns ls t d = sumBelow d (λ (e : ℕ). countBelow mostNames (remains
 abbrev pub postingsOf : List (List ℕ) → ℕ → ℕ
 postingsOf ls n = sumOf (map length (take n ls))
 
--- after the signature lists: past exactly when their postings exceed the budget; otherwise they are the touches, and the tables hold the counts
-pub record Gathered (ns : List ℕ) (ls : List (List ℕ)) (n budget : ℕ) (counts met : List ℕ) (past : Bool) (touches m : ℕ) : Type 0 where
-  pub over : past ≡ ltb budget (postingsOf ls n)
-  pub cost : past ≡ false → touches ≡ postingsOf ls n
-  pub table : past ≡ false → counts ≡ heldTable ns (take n ls)
+-- after the signature lists: their postings are the touches, and the tables hold the counts
+pub record Gathered (ids : List ℕ) (ls : List (List ℕ)) (n budget : ℕ) (counts met : List ℕ) (past : Bool) (touches m : ℕ) : Type 0 where
+  pub spent : Spending (postingsOf ls n) budget past touches
+  pub table : past ≡ false → counts ≡ heldTable ids (take n ls)
   pub candidates : past ≡ false → MetBy counts met m
 
--- after the later lists: past exactly when their touches exceed the budget; otherwise the tables hold the counts of those left
-pub record Narrowed (ns : List ℕ) (ls : List (List ℕ)) (t budget : ℕ) (counts met : List ℕ) (past : Bool) (touches m : ℕ) : Type 0 where
-  pub over : past ≡ ltb budget (laterTouches ns ls t (laterCount ls t))
-  pub cost : past ≡ false → touches ≡ laterTouches ns ls t (laterCount ls t)
-  pub table : past ≡ false → counts ≡ remainTable ns ls t (laterCount ls t)
+-- after the later lists: the tables hold the counts of those left
+pub record Narrowed (ids : List ℕ) (ls : List (List ℕ)) (t budget : ℕ) (counts met : List ℕ) (past : Bool) (touches m : ℕ) : Type 0 where
+  pub spent : Spending (laterTouches ids ls t (laterCount ls t)) budget past touches
+  pub table : past ≡ false → counts ≡ remainTable ids ls t (laterCount ls t)
   pub candidates : past ≡ false → MetBy counts met m
 
--- after both: past exactly when the touches of both exceed the budget, and then no touch is reported and no answer is changed; otherwise the
--- answers hold the counts of those left at their places
-pub record Walked (ns : List ℕ) (ls : List (List ℕ)) (t budget : ℕ) (before after : List ℕ) (past : Bool) (touches : ℕ) : Type 0 where
-  pub over : past ≡ ltb budget (postingsOf ls (signatures (length ls) t) + laterTouches ns ls t (laterCount ls t))
-  pub cost : past ≡ false → touches ≡ postingsOf ls (signatures (length ls) t) + laterTouches ns ls t (laterCount ls t)
-  pub answers : past ≡ false → after ≡ kept (remainTable ns ls t (laterCount ls t)) before
+-- after both: the answers hold the counts of those left at their places; past the budget no touch is reported and no answer is changed
+pub record Walked (ids : List ℕ) (ls : List (List ℕ)) (t budget : ℕ) (before after : List ℕ) (past : Bool) (touches : ℕ) : Type 0 where
+  pub spent : Spending (postingsOf ls (signatures (length ls) t) + laterTouches ids ls t (laterCount ls t)) budget past touches
+  pub answers : past ≡ false → after ≡ kept (remainTable ids ls t (laterCount ls t)) before
   pub none : past ≡ true → (touches ≡ 0) × (after ≡ before)

@@ -1,47 +1,27 @@
-// The two phases of one size: candidates from the signature lists, then the later lists. Over the lists of the size in order, and the names' words.
+// The two phases of one size: candidates from the signature lists, then the later lists. Over the lists of the size in order, and the names' ids.
 // The rule: docs/RULE.md, "The counted search"; the definitions: specs/.
 ghost use mathlib.Core.Path.{_≡_};
 ghost use mathlib.Core.Bool.{cond};
 ghost use Prim.Native.Nat.{ℕ, _+_, _*_, _/_, _%_, _≤_, _<_};
 ghost use lib.ListN.{length, getD};
-ghost use lib.Dec.{ltb};
-ghost use Rattle.laws.specs.Lists.{Ascending, member, countOf, tabulate};
+ghost use Rattle.laws.specs.Lists.{Ascending, member, tabulate};
 ghost use Rattle.names.specs.Features.{mostFeatures};
 ghost use Rattle.index.specs.Good.{mostNames};
-ghost use Rattle.candidates.specs.Tables.{Names, Named, MetBy, tallied, tested, kept, cutAt, cutLists, Readable, remainTable, Gathered, Narrowed, Walked};
+ghost use Rattle.candidates.specs.Tables.{Known, MetBy, tallied, tested, kept, cutAt, cutLists, Readable, remainTable, Gathered, Narrowed, Walked};
 
 // ---- one list against the tables by a name's place
 
-// The place of the name of an id, which the names have; where that is `guess`, nothing is searched.
-fn place_of(names: &[u32], id: u32, guess: usize) -> usize
-    requires { ⌜ Names (now names) × Ascending (now names) × (id * 256 < 4294967296) ⌝ }
-    ensures { λ r. ⌜ r ≡ countOf (λ (y : ℕ). ltb y (id * 256)) (now (names .entry)) ⌝ }
-{
-    if guess < names.len() {
-        if names[guess] / 256 == id {
-            return guess;
-        }
-    }
-    halving::place_in(names, id * 256)
-}
-
 // One more at each name that the list holds; a name that is met first is put behind those met. Answers how many are met.
-fn tally(
-    names: &[u32],
-    list: &[u32],
-    counts: &mut [u32],
-    met: &mut [usize],
-    already: usize,
-) -> usize
-    requires { ⌜ Names (now names) × Ascending (now names) × Ascending (now list) × Named (now names) (now list) ⌝ }
+fn tally(ids: &[u32], list: &[u32], counts: &mut [u32], met: &mut [usize], already: usize) -> usize
+    requires { ⌜ (length (now ids) ≤ mostNames) × Ascending (now ids) × Ascending (now list) × Known (now ids) (now list) ⌝ }
     requires { ⌜ (length (now counts) ≡ mostNames) × (length (now met) ≡ mostNames) × MetBy (now counts) (now met) already × ((i : ℕ) → getD (now counts) i 0 ≤ 65535) ⌝ }
-    ensures { λ r. ⌜ (now (counts .exit) ≡ tallied (now (names .entry)) (now (list .entry)) (now (counts .entry))) × MetBy (now (counts .exit)) (now (met .exit)) r ⌝ }
+    ensures { λ r. ⌜ (now (counts .exit) ≡ tallied (now (ids .entry)) (now (list .entry)) (now (counts .entry))) × MetBy (now (counts .exit)) (now (met .exit)) r ⌝ }
 {
     let mut m = already;
     let mut next = 0;
     let mut k = 0;
     while k < list.len() {
-        let i = place_of(names, list[k], next);
+        let i = halving::place_near(ids, list[k], next);
         next = i + 1;
         let count = counts[i];
         if count == 0 {
@@ -77,7 +57,7 @@ fn counted(list: &[u32], id: u32, count: u32, guess: usize) -> Tested
 
 // Tests each candidate against the list, and drops those that stay below `least` with `left` more. Answers how many remain.
 fn sift(
-    names: &[u32],
+    ids: &[u32],
     list: &[u32],
     counts: &mut [u32],
     met: &mut [usize],
@@ -85,16 +65,16 @@ fn sift(
     left: u32,
     least: u32,
 ) -> usize
-    requires { ⌜ (length (now names) ≤ mostNames) × Ascending (now list) × (left ≤ 65535) ⌝ }
-    requires { ⌜ (length (now counts) ≡ mostNames) × (length (now met) ≡ mostNames) × MetBy (now counts) (now met) already × ((i : ℕ) → getD (now counts) i 0 ≤ 65535) × ((i : ℕ) → 1 ≤ getD (now counts) i 0 → i < length (now names)) ⌝ }
-    ensures { λ r. ⌜ (now (counts .exit) ≡ tested (now (names .entry)) (now (list .entry)) left least (now (counts .entry))) × MetBy (now (counts .exit)) (now (met .exit)) r ⌝ }
+    requires { ⌜ (length (now ids) ≤ mostNames) × Ascending (now list) × (left ≤ 65535) ⌝ }
+    requires { ⌜ (length (now counts) ≡ mostNames) × (length (now met) ≡ mostNames) × MetBy (now counts) (now met) already × ((i : ℕ) → getD (now counts) i 0 ≤ 65535) × ((i : ℕ) → 1 ≤ getD (now counts) i 0 → i < length (now ids)) ⌝ }
+    ensures { λ r. ⌜ (now (counts .exit) ≡ tested (now (ids .entry)) (now (list .entry)) left least (now (counts .entry))) × MetBy (now (counts .exit)) (now (met .exit)) r ⌝ }
 {
     let mut m = 0;
     let mut next = 0;
     let mut k = 0;
     while k < already {
         let i = met[k];
-        let test = counted(list, names[i] / 256, counts[i], next);
+        let test = counted(list, ids[i], counts[i], next);
         let count = test.count;
         next = test.next;
         k += 1;
@@ -135,7 +115,7 @@ struct Walk {
 // The signature lists, tallied: each posting is a touch.
 fn gather(
     words: &[u32],
-    names: &[u32],
+    ids: &[u32],
     keys: &[u64],
     starts: &[usize],
     signatures: usize,
@@ -143,9 +123,9 @@ fn gather(
     counts: &mut [u32],
     met: &mut [usize],
 ) -> Walk
-    requires { ⌜ Names (now names) × Ascending (now names) × Readable (now words) (now names) (now keys) (now starts) × (signatures ≤ length (now keys)) × (length (now keys) ≤ mostFeatures) ⌝ }
+    requires { ⌜ (length (now ids) ≤ mostNames) × Ascending (now ids) × Readable (now words) (now ids) (now keys) (now starts) × (signatures ≤ length (now keys)) × (length (now keys) ≤ mostFeatures) ⌝ }
     requires { ⌜ (now counts ≡ tabulate (λ (i : ℕ). 0) mostNames) × (length (now met) ≡ mostNames) ⌝ }
-    ensures { λ r. ⌜ Gathered (now (names .entry)) (cutLists (now (words .entry)) (now (keys .entry)) (now (starts .entry))) signatures budget (now (counts .exit)) (now (met .exit)) (r .past) (r .touches) (r .met) ⌝ }
+    ensures { λ r. ⌜ Gathered (now (ids .entry)) (cutLists (now (words .entry)) (now (keys .entry)) (now (starts .entry))) signatures budget (now (counts .exit)) (now (met .exit)) (r .past) (r .touches) (r .met) ⌝ }
 {
     let mut m = 0;
     let mut touches = 0;
@@ -160,7 +140,7 @@ fn gather(
             };
         }
         touches += list.len();
-        m = tally(names, list, counts, met, m);
+        m = tally(ids, list, counts, met, m);
         k += 1;
     }
     Walk {
@@ -173,7 +153,7 @@ fn gather(
 // The later lists: each candidate that remains is tested once, a touch each.
 fn narrow(
     words: &[u32],
-    names: &[u32],
+    ids: &[u32],
     keys: &[u64],
     starts: &[usize],
     least: usize,
@@ -182,9 +162,9 @@ fn narrow(
     met: &mut [usize],
     already: usize,
 ) -> Walk
-    requires { ⌜ Names (now names) × Readable (now words) (now names) (now keys) (now starts) × (length (now keys) ≤ mostFeatures) × (1 ≤ least) × (least ≤ length (now keys)) ⌝ }
-    requires { ⌜ (now counts ≡ remainTable (now names) (cutLists (now words) (now keys) (now starts)) least 0) × (length (now met) ≡ mostNames) × MetBy (now counts) (now met) already ⌝ }
-    ensures { λ r. ⌜ Narrowed (now (names .entry)) (cutLists (now (words .entry)) (now (keys .entry)) (now (starts .entry))) least budget (now (counts .exit)) (now (met .exit)) (r .past) (r .touches) (r .met) ⌝ }
+    requires { ⌜ (length (now ids) ≤ mostNames) × Readable (now words) (now ids) (now keys) (now starts) × (length (now keys) ≤ mostFeatures) × (1 ≤ least) × (least ≤ length (now keys)) ⌝ }
+    requires { ⌜ (now counts ≡ remainTable (now ids) (cutLists (now words) (now keys) (now starts)) least 0) × (length (now met) ≡ mostNames) × MetBy (now counts) (now met) already ⌝ }
+    ensures { λ r. ⌜ Narrowed (now (ids .entry)) (cutLists (now (words .entry)) (now (keys .entry)) (now (starts .entry))) least budget (now (counts .exit)) (now (met .exit)) (r .past) (r .touches) (r .met) ⌝ }
 {
     let x = keys.len();
     let mut m = already;
@@ -200,15 +180,7 @@ fn narrow(
         }
         touches += m;
         let list = list_in(words, keys, starts, k);
-        m = sift(
-            names,
-            list,
-            counts,
-            met,
-            m,
-            (x - k - 1) as u32,
-            least as u32,
-        );
+        m = sift(ids, list, counts, met, m, (x - k - 1) as u32, least as u32);
         k += 1;
     }
     Walk {
@@ -242,21 +214,21 @@ pub struct Spent {
 // The two phases over lists in order, and what is left kept among the answers.
 pub fn walk_lists(
     words: &[u32],
-    names: &[u32],
+    ids: &[u32],
     keys: &[u64],
     starts: &[usize],
     least: usize,
     budget: usize,
     answers: &mut [u32],
 ) -> Spent
-    requires { ⌜ Names (now names) × Ascending (now names) × Readable (now words) (now names) (now keys) (now starts) × (length (now keys) ≤ mostFeatures) × (1 ≤ least) × (least ≤ length (now keys)) × (length (now answers) ≡ mostNames) ⌝ }
-    ensures { λ r. ⌜ Walked (now (names .entry)) (cutLists (now (words .entry)) (now (keys .entry)) (now (starts .entry))) least budget (now (answers .entry)) (now (answers .exit)) (r .past) (r .touches) ⌝ }
+    requires { ⌜ (length (now ids) ≤ mostNames) × Ascending (now ids) × Readable (now words) (now ids) (now keys) (now starts) × (length (now keys) ≤ mostFeatures) × (1 ≤ least) × (least ≤ length (now keys)) × (length (now answers) ≡ mostNames) ⌝ }
+    ensures { λ r. ⌜ Walked (now (ids .entry)) (cutLists (now (words .entry)) (now (keys .entry)) (now (starts .entry))) least budget (now (answers .entry)) (now (answers .exit)) (r .past) (r .touches) ⌝ }
 {
     let mut counts = [0u32; 256];
     let mut met = [0usize; 256];
     let first = gather(
         words,
-        names,
+        ids,
         keys,
         starts,
         keys.len() - least + 1,
@@ -274,7 +246,7 @@ pub fn walk_lists(
     let already = first.met;
     let then = narrow(
         words,
-        names,
+        ids,
         keys,
         starts,
         least,

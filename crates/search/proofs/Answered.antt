@@ -15,18 +15,11 @@ use Rattle.names.specs.Names.{nameCases, judgeOf}
 use Rattle.names.specs.Features.{featuresOf}
 use Rattle.likeness.specs.Measures.{goodMeasure, goodThreshold}
 use Rattle.likeness.specs.Terms.{lowestTerms}
-use Rattle.words.specs.Words.{nameCount, namesStart}
 use Rattle.index.specs.Good.{goodOf}
 use Rattle.search.specs.Method.{touchesOf, answersOf}
-use Rattle.search.specs.Tables.{nameWords}
 use Rattle.search.specs.Answers.{questionCases, questionOf, refusalOf, searchGoodOf, searchOf, givenBy, Columns, roomOf, columnsOf, columnsOver, Searched}
 use Rattle.search.specs.declared.Answer.{Answer}
 use Rattle.search.specs.declared.Answer.the-variants.{Found, Refused}
-
--- the name words as the code cuts them
-pub names-cut : (w : List ℕ) (n : ℕ) → n ≡ nameCount w → take (3 + n - 3) (drop 3 w) ≡ nameWords w
-unfolding nameWords
-names-cut w n e = ap (λ (k : ℕ). take k (drop 3 w)) (add-sub-cancel-left 3 n ∙ e)
 
 module _ (s : List ℕ) (m p q allowance : ℕ) (w : List ℕ) (room : ℕ) where
   pub good-past : ltb allowance (touchesOf w m p q (featuresOf s)) ≡ true → searchGoodOf s m p q allowance w room ≡ Refused 7 allowance

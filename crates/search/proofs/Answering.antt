@@ -22,13 +22,13 @@ use Rattle.words.specs.Words.{nameCount, nameId, nameSize}
 use Rattle.index.specs.Good.{Good, mostNames}
 use Rattle.index.proofs.Laws.{good-names-most}
 use Rattle.candidates.specs.Method.{heldBy, signatures, remains, laterCount}
-use Rattle.candidates.specs.Tables.{idAt, kept, remainsAt, remainTable}
+use Rattle.candidates.specs.Tables.{kept, remainsAt, remainTable}
 use Rattle.candidates.proofs.Candidates.{held-all}
 use Rattle.candidates.proofs.Counts.{remain-those, remain-value, at-remains, at-absent}
 use Rattle.search.specs.Method.{namesOf, listsFor, touchesAt, sharedWith, sizesEnd, touchesOfSize, touchesOf, listed}
-use Rattle.search.specs.Tables.{nameWords, Asked, answeredAt, answersTable}
+use Rattle.search.specs.Tables.{idsOf, Asked, answeredAt, answersTable}
 use Rattle.search.proofs.Laws.{length-lists}
-use Rattle.search.proofs.Size.{length-names, id-at, remains-size}
+use Rattle.search.proofs.Size.{length-ids, id-at, remains-size}
 use Rattle.search.proofs.Work.{touches-absent}
 
 module _ (w : List ℕ) (good : Good w) (m p q : ℕ) (f : List ℕ) (a : Asked f) where
@@ -102,18 +102,18 @@ module _ (w : List ℕ) (good : Good w) (m p q : ℕ) (f : List ℕ) (a : Asked 
         ∙ (rw searched)
 
     -- all lists are counted at the end
-    count-end : (i : ℕ) → i < nameCount w → heldBy (take (signatures (length ls) t + laterCount ls t) ls) (idAt (nameWords w) i) ≡ heldBy ls (nameId w i)
+    count-end : (i : ℕ) → i < nameCount w → heldBy (take (signatures (length ls) t + laterCount ls t) ls) (getD (idsOf w) i 0) ≡ heldBy ls (nameId w i)
     count-end i h =
         let n = enough in
-        held-all ls (idAt (nameWords w) i) (signatures (length ls) t + laterCount ls t) (omega arith) ∙ ap (heldBy ls) (id-at w good i h)
+        held-all ls (getD (idsOf w) i 0) (signatures (length ls) t + laterCount ls t) (omega arith) ∙ ap (heldBy ls) (id-at w i h)
 
-    at-place : (i : ℕ) → i < mostNames → (b : Bool) → remainsAt (nameWords w) ls t (laterCount ls t) i ≡ b
-        → cond b (cond b (heldBy (take (signatures (length ls) t + laterCount ls t) ls) (idAt (nameWords w) i)) 0) (cond (answeredAt w m p q f y i) (sharedWith w f i) 0)
+    at-place : (i : ℕ) → i < mostNames → (b : Bool) → remainsAt (idsOf w) ls t (laterCount ls t) i ≡ b
+        → cond b (cond b (heldBy (take (signatures (length ls) t + laterCount ls t) ls) (getD (idsOf w) i 0)) 0) (cond (answeredAt w m p q f y i) (sharedWith w f i) 0)
         ≡ cond (answeredAt w m p q f (y + 1) i) (sharedWith w f i) 0
     at-place i h true e =
-        let r = at-remains (nameWords w) ls t (laterCount ls t) i e in
-        let k : i < nameCount w = (let u = ltb-true i (length (nameWords w)) (r .0) in let n = length-names w good in omega arith) in
-        let v : remains ls t (laterCount ls t) (nameId w i) ≡ true = ap (remains ls t (laterCount ls t)) (sym (id-at w good i k)) ∙ r .1 in
+        let r = at-remains (idsOf w) ls t (laterCount ls t) i e in
+        let k : i < nameCount w = (let u = ltb-true i (length (idsOf w)) (r .0) in let n = length-ids w in omega arith) in
+        let v : remains ls t (laterCount ls t) (nameId w i) ≡ true = ap (remains ls t (laterCount ls t)) (sym (id-at w i k)) ∙ r .1 in
         let s : nameSize w i ≡ y = remains-size w good y f a t (laterCount ls t) i k v in
         let now : answeredAt w m p q f (y + 1) i ≡ true = answered-now i k s (listed-remains i s ∙ v) in
         count-end i k ∙ sym (ap (λ (b : Bool). cond b (sharedWith w f i) 0) now ∙ shared-here i s)
@@ -131,8 +131,8 @@ module _ (w : List ℕ) (good : Good w) (m p q : ℕ) (f : List ℕ) (a : Asked 
         not-listed : i < nameCount w → nameSize w i ≡ y → listed w m p q f i ≡ false
         not-listed k s =
             listed-remains i s
-            ∙ ap (remains ls t (laterCount ls t)) (sym (id-at w good i k))
-            ∙ at-absent (nameWords w) ls t (laterCount ls t) i (lt-ltb i (length (nameWords w)) (rw (length-names w good) k)) e
+            ∙ ap (remains ls t (laterCount ls t)) (sym (id-at w i k))
+            ∙ at-absent (idsOf w) ls t (laterCount ls t) i (lt-ltb i (length (idsOf w)) (rw (length-ids w) k)) e
 
         by-place : (nameCount w ≤ i) ⊎ (i < nameCount w) → answeredAt w m p q f y i ≡ answeredAt w m p q f (y + 1) i
         by-place c =
@@ -142,21 +142,21 @@ module _ (w : List ℕ) (good : Good w) (m p q : ℕ) (f : List ℕ) (a : Asked 
             c
 
     -- a searched size puts its answers among those of the sizes below
-    pub answers-searched : kept (remainTable (nameWords w) ls t (laterCount ls t)) (answersTable w m p q f y) ≡ answersTable w m p q f (y + 1)
+    pub answers-searched : kept (remainTable (idsOf w) ls t (laterCount ls t)) (answersTable w m p q f y) ≡ answersTable w m p q f (y + 1)
     unfolding kept answersTable
     answers-searched =
         tabulate-ext
-        (λ (i : ℕ). cond (leb 1 (getD (remainTable (nameWords w) ls t (laterCount ls t)) i 0)) (getD (remainTable (nameWords w) ls t (laterCount ls t)) i 0) (getD (tabulate (λ (j : ℕ). cond (answeredAt w m p q f y j) (sharedWith w f j) 0) mostNames) i 0))
+        (λ (i : ℕ). cond (leb 1 (getD (remainTable (idsOf w) ls t (laterCount ls t)) i 0)) (getD (remainTable (idsOf w) ls t (laterCount ls t)) i 0) (getD (tabulate (λ (j : ℕ). cond (answeredAt w m p q f y j) (sharedWith w f j) 0) mostNames) i 0))
         (λ (i : ℕ). cond (answeredAt w m p q f (y + 1) i) (sharedWith w f i) 0) mostNames
         (λ i h.
         let n = enough in
         let d : laterCount ls t ≤ laterCount ls t = omega arith in
-        let one = remain-those (nameWords w) ls t low enough (laterCount ls t) d i h in
-        let value = remain-value (nameWords w) ls t (laterCount ls t) i h in
+        let one = remain-those (idsOf w) ls t low enough (laterCount ls t) d i h in
+        let value = remain-value (idsOf w) ls t (laterCount ls t) i h in
         let old = getD-tabulate (λ (j : ℕ). cond (answeredAt w m p q f y j) (sharedWith w f j) 0) mostNames i 0 h in
         ap₂ (λ (b : Bool) (c : ℕ). cond b c (getD (tabulate (λ (j : ℕ). cond (answeredAt w m p q f y j) (sharedWith w f j) 0) mostNames) i 0)) one value
-        ∙ ap (λ (c : ℕ). cond (remainsAt (nameWords w) ls t (laterCount ls t) i) (cond (remainsAt (nameWords w) ls t (laterCount ls t) i) (heldBy (take (signatures (length ls) t + laterCount ls t) ls) (idAt (nameWords w) i)) 0) c) old
-        ∙ at-place i h (remainsAt (nameWords w) ls t (laterCount ls t) i) refl)
+        ∙ ap (λ (c : ℕ). cond (remainsAt (idsOf w) ls t (laterCount ls t) i) (cond (remainsAt (idsOf w) ls t (laterCount ls t) i) (heldBy (take (signatures (length ls) t + laterCount ls t) ls) (getD (idsOf w) i 0)) 0) c) old
+        ∙ at-place i h (remainsAt (idsOf w) ls t (laterCount ls t) i) refl)
 
   -- ---- no size yet, and all sizes
 

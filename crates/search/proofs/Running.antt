@@ -3,7 +3,7 @@
 use mathlib.Core.Path.{_≡_, sym, ap, ap₂, fun-ext, _∙_}
 use mathlib.Core.Bool.{Bool, true, false}
 use mathlib.Core.List.{List, map}
-use Prim.Native.Nat.{ℕ, _%_, _≤_, _<_}
+use Prim.Native.Nat.{ℕ, _≤_, _<_}
 use native.Mathlib.Omega.{arith}
 use borrow.Author.Tests.{lt-ltb, le-ltb, ltb-true, ltb-false}
 use lib.ListN.{length, getD}
@@ -16,27 +16,26 @@ use Rattle.likeness.specs.Measures.{goodMeasure, goodThreshold}
 use Rattle.likeness.specs.Terms.{lowestTerms}
 use Rattle.words.specs.Words.{nameCount, nameId, nameSize}
 use Rattle.index.specs.Good.{Good, mostNames}
-use Rattle.candidates.specs.Tables.{idAt}
+use Rattle.candidates.proofs.Spending.{spent-most}
 use Rattle.search.specs.Method.{sizesEnd, sharedWith, touchesOf, answersOf}
-use Rattle.search.specs.Tables.{nameWords, Asked, answersTable, placesIn, Covered}
+use Rattle.search.specs.Tables.{Asked, answersTable, placesIn, Covered}
 use Rattle.search.specs.Answers.{searchGoodOf, searchOf, givenBy, Columns, roomOf, columnsOf, columnsOver, Searched}
 use Rattle.search.specs.declared.Answer.{Answer}
 use Rattle.search.specs.declared.Answer.the-variants.{Found, Refused}
 use Rattle.search.proofs.Answered.{good-past, good-full, good-found, question-none, refusal-none, search-runs, searched-refused}
-use Rattle.search.proofs.Size.{length-names}
 use Rattle.search.proofs.Answering.{length-answers}
-use Rattle.search.proofs.Whole.{touches-sorted, answers-sorted, shared-sorted, asked-of, query-features, places-answers, shared-column, id-column, size-column}
+use Rattle.search.proofs.Whole.{touches-sorted, answers-sorted, shared-sorted, asked-of, query-features, places-answers, shared-column}
 
 -- the places of the answers, as the table holds them, and their rows
 abbrev pub placesOf : List ℕ → List ℕ → List ℕ
 placesOf w answers = placesIn answers (nameCount w)
 
 abbrev pub tableColumns : List ℕ → List ℕ → List ℕ → Columns
-tableColumns names answers places =
+tableColumns w answers places =
     record {
-      ids = map (idAt names) places;
+      ids = map (nameId w) places;
       shared = map (λ (i : ℕ). getD answers i 0) places;
-      sizes = map (λ (i : ℕ). getD names i 0 % 256) places;
+      sizes = map (nameSize w) places;
     }
 
 -- a search of a good index, with a good query, measure and threshold, and what its sizes came to
@@ -57,14 +56,14 @@ module _ {s : List ℕ} {m p q allowance : ℕ} {w answers : List ℕ} {past : B
 
   pub ran-past : past ≡ true → (c : Columns) → Searched s m p q allowance w c c (Refused 7 allowance)
   ran-past e c =
-      let o = ltb-true allowance (touchesOf w m p q (sortOf (featuresOf s))) (sym (r .covered .over) ∙ e) in
+      let o = ltb-true allowance (touchesOf w m p q (sortOf (featuresOf s))) (sym (r .covered .spent .over) ∙ e) in
       let t = touches-sorted w m p q (featuresOf s) in
       searched-refused s m p q allowance w c 7 allowance
       (good-runs (roomOf c) ∙ good-past s m p q allowance w (roomOf c) (lt-ltb allowance (touchesOf w m p q (featuresOf s)) (omega arith)))
 
   module _ (e : past ≡ false) where
     cost : touches ≡ touchesOf w m p q (featuresOf s)
-    cost = r .covered .cost e ∙ touches-sorted w m p q (featuresOf s)
+    cost = r .covered .spent .cost e ∙ touches-sorted w m p q (featuresOf s)
 
     table : answers ≡ answersTable w m p q (sortOf (featuresOf s)) sizesEnd
     table = r .covered .answers e
@@ -79,10 +78,7 @@ module _ {s : List ℕ} {m p q allowance : ℕ} {w answers : List ℕ} {past : B
     ran-wide = ap length table ∙ length-answers w (r .good) m p q (sortOf (featuresOf s)) asked sizesEnd
 
     pub ran-enough : touches ≤ allowance
-    ran-enough =
-        let h = ltb-false allowance (touchesOf w m p q (sortOf (featuresOf s))) (sym (r .covered .over) ∙ e) in
-        let t = r .covered .cost e in
-        omega arith
+    ran-enough = spent-most (touchesOf w m p q (sortOf (featuresOf s))) allowance past touches (r .covered .spent) e .1
 
     fits : ltb allowance (touchesOf w m p q (featuresOf s)) ≡ false
     fits =
@@ -99,31 +95,29 @@ module _ {s : List ℕ} {m p q allowance : ℕ} {w answers : List ℕ} {past : B
         ∙ ap (Refused 8) (sym cost))
 
     -- the rows of the table are the answers'
-    rows : tableColumns (nameWords w) answers (placesOf w answers) ≡ columnsOf w (featuresOf s) (answersOf w m p q (featuresOf s))
+    rows : tableColumns w answers (placesOf w answers) ≡ columnsOf w (featuresOf s) (answersOf w m p q (featuresOf s))
     rows =
         let f = sortOf (featuresOf s) in
         let same = answers-sorted w m p q (featuresOf s) in
-        ap₂ (tableColumns (nameWords w)) table sorted
+        ap₂ (tableColumns w) table sorted
         ∙ (λ t.
         record {
-          ids = (id-column w (r .good) m p q (r .known) (r .exact) f asked ∙ ap (map (nameId w)) same) t;
+          ids = ap (map (nameId w)) same t;
           shared = (shared-column w (r .good) m p q (r .known) (r .exact) f asked ∙ ap₂ (λ (g : ℕ → ℕ) (l : List ℕ). map g l) (fun-ext (shared-sorted w (featuresOf s))) same) t;
-          sizes = (size-column w (r .good) m p q (r .known) (r .exact) f asked ∙ ap (map (nameSize w)) same) t;
+          sizes = ap (map (nameSize w)) same t;
         })
 
-    -- with the names as the code has them
-    pub ran-found : (names : List ℕ) → names ≡ nameWords w → (c d : Columns) (n : ℕ) → n ≡ length (placesOf w answers) → n ≤ roomOf c
-        → d ≡ columnsOver (tableColumns names answers (placesIn answers (length names))) c
+    pub ran-found : (c d : Columns) (n : ℕ) → n ≡ length (placesOf w answers) → n ≤ roomOf c
+        → d ≡ columnsOver (tableColumns w answers (placesOf w answers)) c
         → Searched s m p q allowance w c d (Found n touches (lowestTerms p q .p) (lowestTerms p q .q))
     unfolding givenBy
-    ran-found names cut c d n k h g =
+    ran-found c d n k h g =
         let l = ap length places in
         let found = good-runs (roomOf c) ∙ good-found s m p q allowance w (roomOf c) fits (le-ltb (roomOf c) (length (answersOf w m p q (featuresOf s))) (omega arith)) in
         record {
           answer = ap₂ (λ (x y : ℕ). Found x y (lowestTerms p q .p) (lowestTerms p q .q)) (k ∙ l) cost ∙ sym found;
           columns =
               g
-              ∙ ap₂ (λ (x : List ℕ) (i : ℕ). columnsOver (tableColumns x answers (placesIn answers i)) c) cut (ap length cut ∙ length-names w (r .good))
               ∙ ap (λ (x : Columns). columnsOver x c) rows
               ∙ ap (λ (x : Answer). columnsOver (columnsOf w (featuresOf s) (givenBy x (answersOf w m p q (featuresOf s)))) c) (sym found);
         }

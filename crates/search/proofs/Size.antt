@@ -1,4 +1,4 @@
--- One size, as the code has it, is one size of the method: the lists cut out of the words, the names' words, and the touches. Cited by the
+-- One size, as the code has it, is one size of the method: the lists cut out of the words, the names' ids, and the touches. Cited by the
 -- proof of `one_size`.
 -- Assumes nothing.
 use mathlib.Core.Path.{_≡_, refl, sym, ap, ap₂, _∙_}
@@ -7,8 +7,8 @@ use mathlib.Core.Bool.{Bool, true, false, cond, _&&_}
 use mathlib.Core.List.{List, [], _∷_, _++_}
 use Prim.Native.Nat.{ℕ, zero, suc, _+_, _-_, _*_, _/_, _%_, _≤_, _<_}
 use native.Mathlib.Omega.{arith}
-use lib.ListN.{length, getD, take, drop, length-drop}
-use lib.Seq.{ext-getD, length-take-le, getD-take, getD-drop}
+use lib.ListN.{length, getD, take, drop}
+use lib.Seq.{ext-getD}
 use lib.Dec.{eqb, ltb}
 use borrow.Author.Tests.{lt-ltb, le-ltb, ltb-true, eq-eqb, eqb-true}
 use Rattle.laws.specs.Lists.{member, Ascending, tabulate, countOf}
@@ -22,54 +22,40 @@ use Rattle.laws.proofs.Tests.{same-test, and-parts}
 use Rattle.laws.proofs.Below.{and-both}
 use Rattle.laws.proofs.Order.{le-or-lt}
 use Rattle.laws.proofs.Sort.{ascending-sorted, ascending-distinct, sort-sorted}
-use Rattle.laws.proofs.Ascending.{ascending-next}
-use Rattle.words.specs.Words.{nameCount, nameWord, nameId, nameSize, namesStart}
+use Rattle.laws.proofs.Images.{ascending-tabulate}
+use Rattle.words.specs.Words.{nameCount, nameId, nameSize}
 use Rattle.index.specs.Good.{Good, mostNames}
-use Rattle.index.proofs.Laws.{good-names-most, good-within, good-ids, good-ids-apart}
+use Rattle.index.proofs.Laws.{good-names-most, good-ids, good-ids-apart}
 use Rattle.lists.specs.Part.{Span, cut}
 use Rattle.lists.specs.Lists.{listIn, spanIn}
 use Rattle.lists.proofs.Laws.{good-named, good-ascending, span-words}
 use Rattle.lists.proofs.Spans.{span-within, span-count}
 use Rattle.candidates.specs.Method.{signatures, signaturePostings, remains, laterCount}
-use Rattle.candidates.specs.Tables.{idAt, Names, Named, cutAt, cutLists, Readable, remainsAt, laterTouches, postingsOf}
+use Rattle.candidates.specs.Tables.{cutAt, cutLists, Readable, remainsAt, laterTouches, postingsOf}
 use Rattle.candidates.proofs.Candidates.{remains-met}
 use Rattle.candidates.proofs.Counts.{length-cut, getD-cut}
 use Rattle.search.specs.Method.{listsFor, remaining, touchesAt}
-use Rattle.search.specs.Tables.{startOf, smallKey, nameWords, Asked}
+use Rattle.search.specs.Tables.{startOf, smallKey, idsOf, Asked}
 use Rattle.search.proofs.Laws.{Query, length-lists, held-features}
 use Rattle.search.proofs.Work.{list-length}
 use Rattle.search.proofs.Order.{smallKeys, length-small, kth-key}
 
--- ---- the name words
+-- ---- the ids of the names
 
-module _ (w : List ℕ) (good : Good w) where
-  pub length-names : length (nameWords w) ≡ nameCount w
-  unfolding nameWords
-  length-names =
-      let h = good-within w good in
-      let d = length-drop namesStart w in
-      length-take-le (nameCount w) (drop namesStart w) (omega arith)
+pub length-ids : (w : List ℕ) → length (idsOf w) ≡ nameCount w
+unfolding idsOf
+length-ids w = length-tabulate (nameId w) (nameCount w)
 
-  pub id-at : (i : ℕ) → i < nameCount w → idAt (nameWords w) i ≡ nameId w i
-  unfolding nameWords nameId nameWord
-  id-at i h = ap (λ (x : ℕ). x / 256) (getD-take (nameCount w) (drop namesStart w) i 0 h ∙ getD-drop namesStart w i 0)
+pub id-at : (w : List ℕ) (i : ℕ) → i < nameCount w → getD (idsOf w) i 0 ≡ nameId w i
+unfolding idsOf
+id-at w i h = getD-tabulate (nameId w) (nameCount w) i 0 h
 
-  pub names-fine : Names (nameWords w)
-  names-fine =
-      record {
-        few = rw length-names (good-names-most w good);
-        rising = λ i j l h.
-            let k : j < nameCount w = rw length-names at h in
-            let r = good-ids w good i j l k in
-            let a = id-at i (omega arith) in
-            let b = id-at j k in
-            omega arith;
-      }
+pub ids-few : (w : List ℕ) → Good w → length (idsOf w) ≤ mostNames
+ids-few w good = rw (length-ids w) (good-names-most w good)
 
-  pub names-rise : Ascending (nameWords w)
-  names-rise =
-      ascending-next (nameWords w)
-      (λ i h. let r = names-fine .rising i (i + 1) (omega arith) h in omega arith)
+pub ids-rise : (w : List ℕ) → Good w → Ascending (idsOf w)
+unfolding idsOf
+ids-rise w good = ascending-tabulate (nameId w) (nameCount w) (λ i h. good-ids w good i (i + 1) (omega arith) h)
 
 -- ---- the features
 
@@ -128,7 +114,7 @@ module _ (w : List ℕ) (good : Good w) (y : ℕ) (f : List ℕ) (a : Asked f) (
       let q : k < length f = rw (n ∙ l) at h in
       getD-cut w keys starts k (rw l q) ∙ cut-list k q ∙ sym (kth k q .1))
 
-  pub cut-readable : Readable w (nameWords w) keys starts
+  pub cut-readable : Readable w (idsOf w) keys starts
   cut-readable =
       record {
         place = λ k h. let q = kth k (rw length-keys at h) .0 in omega arith;
@@ -148,10 +134,10 @@ module _ (w : List ℕ) (good : Good w) (y : ℕ) (f : List ℕ) (a : Asked f) (
             let d : startOf w y f (getD keys k 0 % 256) ≡ spanIn w y g .start = unfold startOf in refl in
             omega arith;
         ascending = λ k h. rw (cut-list k (rw length-keys at h)) (good-ascending w good y (getD f (getD keys k 0 % 256) 0));
-        named = λ k h id m.
+        known = λ k h id m.
             let e = cut-list k (rw length-keys at h) in
             let p = good-named w good y (getD f (getD keys k 0 % 256) 0) id (rw e at m) in
-            (p .0, rw (length-names w good) (p .1), id-at w good (p .0) (p .1) ∙ p .2);
+            (p .0, rw (length-ids w) (p .1), id-at w (p .0) (p .1) ∙ p .2);
       }
 
 -- ---- the touches
@@ -193,28 +179,28 @@ module _ (w : List ℕ) (good : Good w) (y : ℕ) (f : List ℕ) (a : Asked f) (
       ap (nameSize w) (sym s) ∙ n .3
 
   -- so those of the size that remain are all that remain
-  pub remaining-at : (d : ℕ) → remaining w y (listsFor w y f) t d ≡ countBelow mostNames (remainsAt (nameWords w) (listsFor w y f) t d)
+  pub remaining-at : (d : ℕ) → remaining w y (listsFor w y f) t d ≡ countBelow mostNames (remainsAt (idsOf w) (listsFor w y f) t d)
   unfolding remaining remainsAt
   remaining-at d =
       let m = good-names-most w good in
       let e : nameCount w + (mostNames - nameCount w) ≡ mostNames = omega arith in
-      let u : ℕ → Bool = λ (i : ℕ). remains (listsFor w y f) t d (idAt (nameWords w) i) in
+      let u : ℕ → Bool = λ (i : ℕ). remains (listsFor w y f) t d (getD (idsOf w) i 0) in
       sum-below-ext (nameCount w) (λ (i : ℕ). cond (eqb (nameSize w i) y && remains (listsFor w y f) t d (nameId w i)) 1 0) (λ (i : ℕ). cond (u i) 1 0)
       (λ i h.
       ap (λ (b : Bool). cond b 1 0)
       (same-test (eqb (nameSize w i) y && remains (listsFor w y f) t d (nameId w i)) (u i)
-      (λ q. ap (remains (listsFor w y f) t d) (id-at w good i h) ∙ and-parts (eqb (nameSize w i) y) (remains (listsFor w y f) t d (nameId w i)) q .1)
+      (λ q. ap (remains (listsFor w y f) t d) (id-at w i h) ∙ and-parts (eqb (nameSize w i) y) (remains (listsFor w y f) t d (nameId w i)) q .1)
       (λ q.
-      let r = ap (remains (listsFor w y f) t d) (sym (id-at w good i h)) ∙ q in
+      let r = ap (remains (listsFor w y f) t d) (sym (id-at w i h)) ∙ q in
       and-both (eqb (nameSize w i) y) (remains (listsFor w y f) t d (nameId w i)) (eq-eqb (nameSize w i) y (remains-size d i h r)) r)))
       ∙ sym (count-cut (nameCount w) (mostNames - nameCount w) u)
-      ∙ ap₂ (λ (n l : ℕ). countBelow n (λ (i : ℕ). ltb i l && u i)) e (sym (length-names w good))
+      ∙ ap₂ (λ (n l : ℕ). countBelow n (λ (i : ℕ). ltb i l && u i)) e (sym (length-ids w))
 
   -- the touches of the size, as the code counts them
   pub touches-at : touchesAt w y (listsFor w y f) t
       ≡ postingsOf (listsFor w y f) (signatures (length (listsFor w y f)) t)
-      + laterTouches (nameWords w) (listsFor w y f) t (laterCount (listsFor w y f) t)
+      + laterTouches (idsOf w) (listsFor w y f) t (laterCount (listsFor w y f) t)
   unfolding touchesAt signaturePostings laterTouches
   touches-at =
       ap (λ (n : ℕ). postingsOf (listsFor w y f) (signatures (length (listsFor w y f)) t) + n)
-      (sum-below-ext (laterCount (listsFor w y f) t) (remaining w y (listsFor w y f) t) (λ (e : ℕ). countBelow mostNames (remainsAt (nameWords w) (listsFor w y f) t e)) (λ d h. remaining-at d))
+      (sum-below-ext (laterCount (listsFor w y f) t) (remaining w y (listsFor w y f) t) (λ (e : ℕ). countBelow mostNames (remainsAt (idsOf w) (listsFor w y f) t e)) (λ d h. remaining-at d))

@@ -27,15 +27,14 @@ use Rattle.names.specs.Features.{mostFeatures, characters, featuresOf}
 use Rattle.names.specs.Set.{filled}
 use Rattle.names.specs.declared.FeatureSet.{FeatureSet}
 use Rattle.names.proofs.Laws.{size-within, distinct-features, feature-fits}
-use Rattle.words.specs.Words.{nameCount, nameWord, nameId, nameSize, namesStart, featureSpan, keyOf}
+use Rattle.words.specs.Words.{nameCount, nameId, nameSize, featureSpan, keyOf}
 use Rattle.index.specs.Good.{Good, mostNames}
 use Rattle.index.proofs.Laws.{good-name-within, good-names-most}
 use Rattle.lists.specs.Lists.{listIn}
-use Rattle.candidates.specs.Tables.{idAt}
 use Rattle.search.specs.Method.{orderedFor, listsFor, sharedWith, sizesEnd, touchesOfSize, touchesOf, listed, answersBelow, answersOf}
-use Rattle.search.specs.Tables.{nameWords, Asked, answeredAt, answersTable, placesIn}
+use Rattle.search.specs.Tables.{Asked, answeredAt, answersTable, placesIn}
 use Rattle.search.proofs.Laws.{Query, listed-similar}
-use Rattle.search.proofs.Size.{length-names, id-at, asked-query}
+use Rattle.search.proofs.Size.{asked-query}
 
 -- ---- sorted features change nothing
 
@@ -175,14 +174,6 @@ module _ (w : List ℕ) (good : Good w) (m p q : ℕ) (known : goodMeasure m ≡
 
   pub shared-column : map (λ (i : ℕ). getD (answersTable w m p q f sizesEnd) i 0) (answersOf w m p q f) ≡ map (sharedWith w f) (answersOf w m p q f)
   shared-column = column-answers (λ (i : ℕ). getD (answersTable w m p q f sizesEnd) i 0) (sharedWith w f) (λ i h e. answer-at i h ∙ (rw e))
-
-  pub id-column : map (idAt (nameWords w)) (answersOf w m p q f) ≡ map (nameId w) (answersOf w m p q f)
-  id-column = column-answers (idAt (nameWords w)) (nameId w) (λ i h e. id-at w good i h)
-
-  pub size-column : map (λ (i : ℕ). getD (nameWords w) i 0 % 256) (answersOf w m p q f) ≡ map (nameSize w) (answersOf w m p q f)
-  size-column =
-      column-answers (λ (i : ℕ). getD (nameWords w) i 0 % 256) (nameSize w)
-      (λ i h e. unfold nameWords nameSize nameWord in (ap (λ (x : ℕ). x % 256) (getD-take (nameCount w) (drop namesStart w) i 0 h ∙ getD-drop namesStart w i 0)))
 
 -- ---- the query's features in the set
 

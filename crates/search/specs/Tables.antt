@@ -5,24 +5,25 @@ use mathlib.Core.Path.{_≡_}
 use mathlib.Core.Bool.{Bool, false, cond, _&&_}
 use mathlib.Core.List.{List, [], _∷_, _++_}
 use Prim.Native.Nat.{ℕ, zero, suc, _+_, _*_, _≤_, _<_}
-use lib.ListN.{length, getD, take, drop}
+use lib.ListN.{length, getD}
 use lib.Dec.{leb, ltb}
 use Rattle.laws.specs.Lists.{Ascending, tabulate}
 use Rattle.laws.specs.Below.{countBelow}
 use Rattle.laws.specs.Each.{Each}
 use Rattle.names.specs.Features.{mostFeatures}
-use Rattle.words.specs.Words.{nameCount, nameSize, namesStart, featureSpan}
+use Rattle.words.specs.Words.{nameCount, nameId, nameSize, featureSpan}
 use Rattle.index.specs.Good.{mostNames}
 use Rattle.lists.specs.Lists.{spanIn, listIn}
 use Rattle.candidates.specs.Method.{laterCount}
+use Rattle.candidates.specs.Spending.{Spending}
 use Rattle.candidates.specs.Tables.{kept, remainTable}
 use Rattle.search.specs.Method.{namesOf, listsFor, touchesAt, sharedWith, sizesEnd, touchesOfSize, touchesOf, listed}
 
 -- ---- the names
 
--- the name words, as a part of the words
-unfoldable pub nameWords : List ℕ → List ℕ
-nameWords w = take (nameCount w) (drop namesStart w)
+-- the ids of the names, in order
+unfoldable pub idsOf : List ℕ → List ℕ
+idsOf w = tabulate (nameId w) (nameCount w)
 
 -- 1 where a name has the size, 0 where none has
 unfoldable pub presentAt : List ℕ → ℕ → ℕ
@@ -44,11 +45,10 @@ filledOf w y features n = countBelow n (λ (j : ℕ). ltb 255 (smallKey w y feat
 
 -- ---- one size
 
--- what one size comes to: past exactly when its touches exceed the budget; otherwise the answers hold the counts of those left at their places
+-- what one size comes to: the answers hold the counts of those left at their places
 pub record Sized (w : List ℕ) (y : ℕ) (features : List ℕ) (t budget : ℕ) (before after : List ℕ) (past : Bool) (touches : ℕ) : Type 0 where
-  pub over : past ≡ ltb budget (touchesAt w y (listsFor w y features) t)
-  pub cost : past ≡ false → touches ≡ touchesAt w y (listsFor w y features) t
-  pub answers : past ≡ false → after ≡ kept (remainTable (nameWords w) (listsFor w y features) t (laterCount (listsFor w y features) t)) before
+  pub spent : Spending (touchesAt w y (listsFor w y features) t) budget past touches
+  pub answers : past ≡ false → after ≡ kept (remainTable (idsOf w) (listsFor w y features) t (laterCount (listsFor w y features) t)) before
 
 -- the features as the code has them: ascending, some and not too many, each below the span
 pub record Asked (features : List ℕ) : Type 0 where
@@ -67,16 +67,14 @@ answeredAt w m p q features y i = ltb i (nameCount w) && (ltb (nameSize w i) y &
 unfoldable pub answersTable : List ℕ → ℕ → ℕ → ℕ → List ℕ → ℕ → List ℕ
 answersTable w m p q features y = tabulate (λ (i : ℕ). cond (answeredAt w m p q features y i) (sharedWith w features i) 0) mostNames
 
--- after size y: past exactly when its touches exceed the budget; otherwise the answers are those of the sizes up to y
+-- after size y: the answers are those of the sizes up to y
 pub record Stepped (w : List ℕ) (m p q : ℕ) (features : List ℕ) (y budget : ℕ) (after : List ℕ) (past : Bool) (touches : ℕ) : Type 0 where
-  pub over : past ≡ ltb budget (touchesOfSize w m p q features y)
-  pub cost : past ≡ false → touches ≡ touchesOfSize w m p q features y
+  pub spent : Spending (touchesOfSize w m p q features y) budget past touches
   pub answers : past ≡ false → after ≡ answersTable w m p q features (y + 1)
 
 -- after all sizes
 pub record Covered (w : List ℕ) (m p q : ℕ) (features : List ℕ) (budget : ℕ) (after : List ℕ) (past : Bool) (touches : ℕ) : Type 0 where
-  pub over : past ≡ ltb budget (touchesOf w m p q features)
-  pub cost : past ≡ false → touches ≡ touchesOf w m p q features
+  pub spent : Spending (touchesOf w m p q features) budget past touches
   pub answers : past ≡ false → after ≡ answersTable w m p q features sizesEnd
 
 -- the places below n whose count is at least 1, in order

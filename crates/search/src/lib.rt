@@ -1,8 +1,8 @@
 // The counted search over plain lent slices. The rule: docs/RULE.md, "The counted search"; the definitions: specs/.
 ghost use mathlib.Core.Path.{_≡_};
 ghost use mathlib.Core.List.{List, _++_, map};
-ghost use Prim.Native.Nat.{ℕ, _%_, _≤_, _<_, min};
-ghost use lib.ListN.{length, getD, drop};
+ghost use Prim.Native.Nat.{ℕ, _≤_, _<_, min};
+ghost use lib.ListN.{length, getD, drop, replicate};
 ghost use lib.Dec.{leb};
 ghost use mathlib.Core.Bool.{true};
 ghost use Rattle.likeness.specs.Measures.{goodMeasure, goodThreshold};
@@ -11,9 +11,9 @@ ghost use Rattle.laws.specs.Sort.{sortOf};
 ghost use Rattle.names.specs.Names.{judgeOf};
 ghost use Rattle.names.specs.Features.{mostFeatures, featuresOf};
 ghost use Rattle.index.specs.Good.{Good, mostNames};
-ghost use Rattle.candidates.specs.Tables.{idAt};
+ghost use Rattle.words.specs.Words.{nameCount, nameId, nameSize};
 ghost use Rattle.search.specs.Method.{sizesEnd};
-ghost use Rattle.search.specs.Tables.{presentAt, startOf, smallKey, filledOf, nameWords, Asked, Sized, answersTable, Stepped, Covered, placesIn};
+ghost use Rattle.search.specs.Tables.{presentAt, startOf, smallKey, filledOf, idsOf, Asked, Sized, answersTable, Stepped, Covered, placesIn};
 ghost use Rattle.search.specs.Answers.{questionOf, over, asColumns, Searched};
 use candidates::Spent;
 
@@ -32,6 +32,21 @@ pub enum Answer {
 }
 
 // ---- the names
+
+// Their ids in order, at the front of a table.
+fn name_ids(words: &[u32]) -> [u32; 256]
+    requires { ⌜ Good (now words) ⌝ }
+    ensures { λ r. ⌜ r ≡ idsOf (now (words .entry)) ++ drop (nameCount (now (words .entry))) (replicate mostNames 0) ⌝ }
+{
+    let n = words::name_count(words);
+    let mut table = [0u32; 256];
+    let mut i = 0;
+    while i < n {
+        table[i] = words::name_id(words, i);
+        i += 1;
+    }
+    table
+}
 
 // Which sizes the names have: 1 at each of them.
 fn sizes_present(words: &[u32]) -> [u32; 67]
@@ -108,14 +123,14 @@ fn order_lists(
 // One size: its lists in order, then the two phases.
 fn one_size(
     words: &[u32],
-    names: &[u32],
+    ids: &[u32],
     features: &[u64],
     size: u32,
     least: usize,
     budget: usize,
     answers: &mut [u32],
 ) -> Spent
-    requires { ⌜ Good (now words) × (now names ≡ nameWords (now words)) × Asked (now features) × (1 ≤ least) × (least ≤ length (now features)) × (length (now answers) ≡ mostNames) ⌝ }
+    requires { ⌜ Good (now words) × (now ids ≡ idsOf (now words)) × Asked (now features) × (1 ≤ least) × (least ≤ length (now features)) × (length (now answers) ≡ mostNames) ⌝ }
     ensures { λ r. ⌜ Sized (now (words .entry)) size (now (features .entry)) least budget (now (answers .entry)) (now (answers .exit)) (r .past) (r .touches) ⌝ }
 {
     let x = features.len();
@@ -127,7 +142,7 @@ fn one_size(
             touches: 0,
         };
     }
-    candidates::walk_lists(words, names, &keys[..x], &starts, least, budget, answers)
+    candidates::walk_lists(words, ids, &keys[..x], &starts, least, budget, answers)
 }
 
 // ---- all sizes
@@ -135,7 +150,7 @@ fn one_size(
 // Size y, where `present` is 1 if a name has it; nothing is done where none has or the size isn't searched.
 fn size_step(
     words: &[u32],
-    names: &[u32],
+    ids: &[u32],
     features: &[u64],
     measure: u8,
     p: u16,
@@ -145,7 +160,7 @@ fn size_step(
     budget: usize,
     answers: &mut [u32],
 ) -> Spent
-    requires { ⌜ Good (now words) × (now names ≡ nameWords (now words)) × Asked (now features) × (goodMeasure measure ≡ true) × (y < sizesEnd) × (present ≡ presentAt (now words) y) × (now answers ≡ answersTable (now words) measure p q (now features) y) ⌝ }
+    requires { ⌜ Good (now words) × (now ids ≡ idsOf (now words)) × Asked (now features) × (goodMeasure measure ≡ true) × (y < sizesEnd) × (present ≡ presentAt (now words) y) × (now answers ≡ answersTable (now words) measure p q (now features) y) ⌝ }
     ensures { λ r. ⌜ Stepped (now (words .entry)) measure p q (now (features .entry)) y budget (now (answers .exit)) (r .past) (r .touches) ⌝ }
 {
     if present == 0 {
@@ -163,13 +178,13 @@ fn size_step(
         };
     }
     let least = likeness::least_count(measure, p, q, x, size) as usize;
-    one_size(words, names, features, y as u32, least, budget, answers)
+    one_size(words, ids, features, y as u32, least, budget, answers)
 }
 
 // All sizes upward, as long as their touches are within the allowance.
 fn all_sizes(
     words: &[u32],
-    names: &[u32],
+    ids: &[u32],
     features: &[u64],
     measure: u8,
     p: u16,
@@ -177,7 +192,7 @@ fn all_sizes(
     allowance: usize,
     answers: &mut [u32],
 ) -> Spent
-    requires { ⌜ Good (now words) × (now names ≡ nameWords (now words)) × Asked (now features) × (goodMeasure measure ≡ true) × (now answers ≡ answersTable (now words) measure p q (now features) 0) ⌝ }
+    requires { ⌜ Good (now words) × (now ids ≡ idsOf (now words)) × Asked (now features) × (goodMeasure measure ≡ true) × (now answers ≡ answersTable (now words) measure p q (now features) 0) ⌝ }
     ensures { λ r. ⌜ Covered (now (words .entry)) measure p q (now (features .entry)) allowance (now (answers .exit)) (r .past) (r .touches) ⌝ }
 {
     let present = sizes_present(words);
@@ -186,7 +201,7 @@ fn all_sizes(
     while y < 67 {
         let spent = size_step(
             words,
-            names,
+            ids,
             features,
             measure,
             p,
@@ -231,27 +246,28 @@ fn count_answers(answers: &[u32], n: usize) -> usize
 
 // Writes a row for each answer, in the names' order.
 fn write_rows(
-    names: &[u32],
+    words: &[u32],
     answers: &[u32],
     ids: &mut [u32],
     shared: &mut [u32],
     sizes: &mut [u32],
 )
-    requires { ⌜ (length (now names) ≤ length (now answers)) × (length (placesIn (now answers) (length (now names))) ≤ length (now ids)) × (length (placesIn (now answers) (length (now names))) ≤ length (now shared)) × (length (placesIn (now answers) (length (now names))) ≤ length (now sizes)) ⌝ }
-    ensures { λ _. ⌜ now (ids .exit) ≡ over (map (idAt (now (names .entry))) (placesIn (now (answers .entry)) (length (now (names .entry))))) (now (ids .entry)) ⌝ }
-    ensures { λ _. ⌜ now (shared .exit) ≡ over (map (λ (i : ℕ). getD (now (answers .entry)) i 0) (placesIn (now (answers .entry)) (length (now (names .entry))))) (now (shared .entry)) ⌝ }
-    ensures { λ _. ⌜ now (sizes .exit) ≡ over (map (λ (i : ℕ). getD (now (names .entry)) i 0 % 256) (placesIn (now (answers .entry)) (length (now (names .entry))))) (now (sizes .entry)) ⌝ }
+    requires { ⌜ Good (now words) × (nameCount (now words) ≤ length (now answers)) × (length (placesIn (now answers) (nameCount (now words))) ≤ length (now ids)) × (length (placesIn (now answers) (nameCount (now words))) ≤ length (now shared)) × (length (placesIn (now answers) (nameCount (now words))) ≤ length (now sizes)) ⌝ }
+    ensures { λ _. ⌜ now (ids .exit) ≡ over (map (nameId (now (words .entry))) (placesIn (now (answers .entry)) (nameCount (now (words .entry))))) (now (ids .entry)) ⌝ }
+    ensures { λ _. ⌜ now (shared .exit) ≡ over (map (λ (i : ℕ). getD (now (answers .entry)) i 0) (placesIn (now (answers .entry)) (nameCount (now (words .entry))))) (now (shared .entry)) ⌝ }
+    ensures { λ _. ⌜ now (sizes .exit) ≡ over (map (nameSize (now (words .entry))) (placesIn (now (answers .entry)) (nameCount (now (words .entry))))) (now (sizes .entry)) ⌝ }
 {
+    let n = words::name_count(words);
     let mut k = 0;
     let mut i = 0;
-    while i < names.len() {
+    while i < n {
         let count = answers[i];
-        let name = names[i];
+        let at = i;
         i += 1;
         if 0 < count {
-            ids[k] = name / 256;
+            ids[k] = words::name_id(words, at);
             shared[k] = count;
-            sizes[k] = name % 256;
+            sizes[k] = words::name_size(words, at);
             k += 1;
         }
     }
@@ -274,9 +290,9 @@ fn cover_sizes(
     q: u16,
     allowance: usize,
     words: &[u32],
-    names: &[u32],
+    ids: &[u32],
 ) -> Cover
-    requires { ⌜ Good (now words) × (now names ≡ nameWords (now words)) × (judgeOf (now query) ≡ 0) × (goodMeasure measure ≡ true) ⌝ }
+    requires { ⌜ Good (now words) × (now ids ≡ idsOf (now words)) × (judgeOf (now query) ≡ 0) × (goodMeasure measure ≡ true) ⌝ }
     ensures { λ r. ⌜ Covered (now (words .entry)) measure p q (sortOf (featuresOf (now (query .entry)))) allowance (r .answers) (r .past) (r .touches) ⌝ }
 {
     let set = names::features(query);
@@ -287,7 +303,7 @@ fn cover_sizes(
     let mut answers = [0u32; 256];
     let spent = all_sizes(
         words,
-        names,
+        ids,
         &features[..x],
         measure,
         p,
@@ -324,8 +340,8 @@ fn run(
     ensures { λ r. ⌜ Searched (now (query .entry)) measure p q allowance (now (words .entry)) (asColumns (now (ids .entry)) (now (shared .entry)) (now (sizes .entry))) (asColumns (now (ids .exit)) (now (shared .exit)) (now (sizes .exit))) r ⌝ }
 {
     let n = words::name_count(words);
-    let names = &words[3..3 + n];
-    let found = cover_sizes(query, measure, p, q, allowance as usize, words, names);
+    let table = name_ids(words);
+    let found = cover_sizes(query, measure, p, q, allowance as usize, words, &table[..n]);
     if found.past {
         return Answer::Refused {
             number: 7,
@@ -339,7 +355,7 @@ fn run(
     if room < rows {
         return Answer::Refused { number: 8, touches };
     }
-    write_rows(names, &answers, ids, shared, sizes);
+    write_rows(words, &answers, ids, shared, sizes);
     let t = likeness::lowest(p, q);
     Answer::Found {
         rows: rows as u32,

@@ -6,23 +6,23 @@ use Prim.Native.Nat.{ℕ, _+_, _≤_, _<_, _-_}
 use native.Mathlib.Omega.{arith}
 use lib.ListN.{length, getD, take}
 use lib.Seq.{length-take-le}
-use borrow.Author.Tests.{lt-ltb, le-ltb}
 use Rattle.laws.specs.Lists.{sumOf, tabulate}
 use Rattle.laws.proofs.Lists.{length-tabulate}
 use Rattle.index.specs.Good.{mostNames}
 use Rattle.candidates.specs.Tables.{MetBy, tallied, cutAt, cutLists, heldTable, postingsOf, Gathered}
+use Rattle.candidates.proofs.Spending.{spend-within, spend-over}
 use Rattle.candidates.proofs.Tables.{met-nil}
 use Rattle.candidates.proofs.Counts.{postings-step, postings-up, held-table-nil, held-table-step, held-table-most, length-cut, getD-cut, zero-table}
 use Rattle.candidates.proofs.gather.Statement.{statement}
 use Rattle.candidates.proofs.gather.Tie as tie
 
 abbrev Inv-loop : tie.InvT-loop
-Inv-loop words names keys starts signatures budget counts₀ met₀ m₀ touches₀ k₀ counts met m touches k =
+Inv-loop words ids keys starts signatures budget counts₀ met₀ m₀ touches₀ k₀ counts met m touches k =
     (k ≤ signatures) × (length counts ≡ mostNames) × (length met ≡ mostNames) × (touches ≡ postingsOf (cutLists words keys starts) k) × (touches ≤ budget)
-    × (counts ≡ heldTable names (take k (cutLists words keys starts))) × MetBy counts met m
+    × (counts ≡ heldTable ids (take k (cutLists words keys starts))) × MetBy counts met m
 
 abbrev μ-loop : tie.MeasureT-loop
-μ-loop words names keys starts signatures budget counts₀ met₀ m₀ touches₀ k₀ counts met m touches k = signatures - k
+μ-loop words ids keys starts signatures budget counts₀ met₀ m₀ touches₀ k₀ counts met m touches k = signatures - k
 
 -- the list of this turn
 listed : (c : tie.After-list-in Inv-loop μ-loop) → getD (cutLists (c .before .before .before .before .before .before .before .before .before .args .words .now) (c .before .before .before .before .before .before .before .before .before .args .keys .now) (c .before .before .before .before .before .before .before .before .before .args .starts .now)) (c .before .before .loop .k) [] ≡ c .list-in .result .now
@@ -52,7 +52,7 @@ loop-holds c =
       b .pre .1 .1,
       unfold sumOf in refl,
       omega arith,
-      b .pre .1 .0 ∙ sym (held-table-nil (b .args .names .now) ls),
+      b .pre .1 .0 ∙ sym (held-table-nil (b .args .ids .now) ls),
       met-nil (b .args .counts .now) (b .args .met .now) (λ i. ap (λ (l : List ℕ). getD l i 0) (b .pre .1 .0) ∙ zero-table i),
     )
 
@@ -85,8 +85,7 @@ returns c =
     let u = postings-up ls (l .k + 1) (b .args .signatures - (l .k + 1)) in
     let f = ap (postingsOf ls) e in
     record {
-      over = sym (lt-ltb (b .args .budget) (postingsOf ls (b .args .signatures)) (omega arith));
-      cost = λ q. absurd (true≢false q);
+      spent = spend-over (postingsOf ls (b .args .signatures)) (b .args .budget) 0 (omega arith);
       table = λ q. absurd (true≢false q);
       candidates = λ q. absurd (true≢false q);
     }
@@ -105,14 +104,14 @@ tally-requires c κs =
     let e = c .before .before .before .list-in .ensures .0 in
     let ls = cutLists (b .args .words .now) (b .args .keys .now) (b .args .starts .now) in
     let n = length-cut (b .args .words .now) (b .args .keys .now) (b .args .starts .now) in (
-      (b .pre .0 .0, b .pre .0 .1, rw e (r .ascending (l .k) kl), λ id m. r .named (l .k) kl id (rw e at m)),
+      (b .pre .0 .0, b .pre .0 .1, rw e (r .ascending (l .k) kl), λ id m. r .known (l .k) kl id (rw e at m)),
       (
         l .inv .1,
         l .inv .2,
         l .inv .6,
         λ i.
             let a = ap (λ (v : List ℕ). getD v i 0) (l .inv .5) in
-            let m = held-table-most (b .args .names .now) (take (l .k) ls) i in
+            let m = held-table-most (b .args .ids .now) (take (l .k) ls) i in
             let q = length-take-le (l .k) ls (omega arith) in
             let g = b .pre .0 .4 in
             omega arith,
@@ -142,8 +141,8 @@ loop-again c =
       sym (dearer g),
       omega arith,
       y .ensures .0
-          ∙ ap₂ (λ (a v : List ℕ). tallied (b .args .names .now) a v) (sym (listed g)) (l .inv .5)
-          ∙ held-table-step (b .args .names .now) ls (l .k) (omega arith),
+          ∙ ap₂ (λ (a v : List ℕ). tallied (b .args .ids .now) a v) (sym (listed g)) (l .inv .5)
+          ∙ held-table-step (b .args .ids .now) ls (l .k) (omega arith),
       y .ensures .1,
     )
 
@@ -161,9 +160,8 @@ returns-2 c =
     let e : l .k ≡ b .args .signatures = omega arith in
     let f = ap (postingsOf ls) e in
     record {
-      over = sym (le-ltb (b .args .budget) (postingsOf ls (b .args .signatures)) (omega arith));
-      cost = λ q. l .inv .3 ∙ f;
-      table = λ q. l .inv .5 ∙ ap (λ (n : ℕ). heldTable (b .args .names .now) (take n ls)) e;
+      spent = spend-within (postingsOf ls (b .args .signatures)) (b .args .budget) (l .touches) (l .inv .3 ∙ f) (omega arith);
+      table = λ q. l .inv .5 ∙ ap (λ (n : ℕ). heldTable (b .args .ids .now) (take n ls)) e;
       candidates = λ q. l .inv .6;
     }
 

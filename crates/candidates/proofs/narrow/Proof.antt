@@ -6,30 +6,30 @@ use mathlib.Core.List.{List, [], map}
 use Prim.Native.Nat.{ℕ, _+_, _≤_, _<_, _-_}
 use native.Mathlib.Omega.{arith}
 use lib.ListN.{length, getD, take}
-use borrow.Author.Tests.{lt-ltb, le-ltb}
 use Rattle.laws.specs.Below.{countBelow}
 use Rattle.index.specs.Good.{mostNames}
 use Rattle.candidates.specs.Method.{signatures, laterCount}
 use Rattle.candidates.specs.Tables.{MetBy, tested, cutLists, remainTable, remainsAt, laterTouches, Narrowed}
-use Rattle.candidates.proofs.Counts.{length-cut, getD-cut, length-remain, remain-most, remain-names, remain-count, remain-step, later-step, later-up, later-nil}
+use Rattle.candidates.proofs.Spending.{spend-within, spend-over}
+use Rattle.candidates.proofs.Counts.{length-cut, getD-cut, length-remain, remain-most, remain-known, remain-count, remain-step, later-step, later-up, later-nil}
 use Rattle.candidates.proofs.narrow.Statement.{statement}
 use Rattle.candidates.proofs.narrow.Tie as tie
 
 abbrev Inv-loop : tie.InvT-loop
-Inv-loop words names keys starts least budget counts₀ met₀ already x m₀ touches₀ k₀ counts met m touches k =
+Inv-loop words ids keys starts least budget counts₀ met₀ already x m₀ touches₀ k₀ counts met m touches k =
     (x ≡ length keys) × (x - least + 1 ≤ k) × (k ≤ x) × (length counts ≡ mostNames) × (length met ≡ mostNames)
-    × (touches ≡ laterTouches names (cutLists words keys starts) least (k - (x - least + 1))) × (touches ≤ budget)
-    × (counts ≡ remainTable names (cutLists words keys starts) least (k - (x - least + 1))) × MetBy counts met m
+    × (touches ≡ laterTouches ids (cutLists words keys starts) least (k - (x - least + 1))) × (touches ≤ budget)
+    × (counts ≡ remainTable ids (cutLists words keys starts) least (k - (x - least + 1))) × MetBy counts met m
 
 abbrev μ-loop : tie.MeasureT-loop
-μ-loop words names keys starts least budget counts₀ met₀ already x m₀ touches₀ k₀ counts met m touches k = x - k
+μ-loop words ids keys starts least budget counts₀ met₀ already x m₀ touches₀ k₀ counts met m touches k = x - k
 
 -- the numbers of a turn
 pub record Turn (c : tie.In-loop Inv-loop μ-loop) : Type 0 where
   pub count : length (cutLists (c .before .before .before .before .before .before .before .before .args .words .now) (c .before .before .before .before .before .before .before .before .args .keys .now) (c .before .before .before .before .before .before .before .before .args .starts .now)) ≡ length (c .before .before .before .before .before .before .before .before .args .keys .now)
   pub here : signatures (length (cutLists (c .before .before .before .before .before .before .before .before .args .words .now) (c .before .before .before .before .before .before .before .before .args .keys .now) (c .before .before .before .before .before .before .before .before .args .starts .now))) (c .before .before .before .before .before .before .before .before .args .least) + (c .before .loop .k - (length (c .before .before .before .before .before .before .before .before .args .keys .now) - c .before .before .before .before .before .before .before .before .args .least + 1)) ≡ c .before .loop .k
   pub later : c .before .loop .k - (length (c .before .before .before .before .before .before .before .before .args .keys .now) - c .before .before .before .before .before .before .before .before .args .least + 1) < laterCount (cutLists (c .before .before .before .before .before .before .before .before .args .words .now) (c .before .before .before .before .before .before .before .before .args .keys .now) (c .before .before .before .before .before .before .before .before .args .starts .now)) (c .before .before .before .before .before .before .before .before .args .least)
-  pub met : c .before .loop .m ≡ countBelow mostNames (remainsAt (c .before .before .before .before .before .before .before .before .args .names .now) (cutLists (c .before .before .before .before .before .before .before .before .args .words .now) (c .before .before .before .before .before .before .before .before .args .keys .now) (c .before .before .before .before .before .before .before .before .args .starts .now)) (c .before .before .before .before .before .before .before .before .args .least) (c .before .loop .k - (length (c .before .before .before .before .before .before .before .before .args .keys .now) - c .before .before .before .before .before .before .before .before .args .least + 1)))
+  pub met : c .before .loop .m ≡ countBelow mostNames (remainsAt (c .before .before .before .before .before .before .before .before .args .ids .now) (cutLists (c .before .before .before .before .before .before .before .before .args .words .now) (c .before .before .before .before .before .before .before .before .args .keys .now) (c .before .before .before .before .before .before .before .before .args .starts .now)) (c .before .before .before .before .before .before .before .before .args .least) (c .before .loop .k - (length (c .before .before .before .before .before .before .before .before .args .keys .now) - c .before .before .before .before .before .before .before .before .args .least + 1)))
 
 turn : (c : tie.In-loop Inv-loop μ-loop) → Turn c
 turn c =
@@ -44,7 +44,7 @@ turn c =
       count = n;
       here = omega arith;
       later = omega arith;
-      met = remain-count (b .args .names .now) ls (b .args .least) (p .3) (omega arith) d (omega arith) (l .met) (l .m) (rw (l .inv .7) at (l .inv .8));
+      met = remain-count (b .args .ids .now) ls (b .args .least) (p .3) (omega arith) d (omega arith) (l .met) (l .m) (rw (l .inv .7) at (l .inv .8));
     }
 
 sub-k : tie.Need-sub-k Inv-loop μ-loop
@@ -64,11 +64,11 @@ loop-holds c =
       refl,
       omega arith,
       omega arith,
-      ap length (q .0) ∙ length-remain (b .args .names .now) ls (b .args .least) 0,
+      ap length (q .0) ∙ length-remain (b .args .ids .now) ls (b .args .least) 0,
       q .1,
-      sym (ap (laterTouches (b .args .names .now) ls (b .args .least)) z ∙ later-nil (b .args .names .now) ls (b .args .least)),
+      sym (ap (laterTouches (b .args .ids .now) ls (b .args .least)) z ∙ later-nil (b .args .ids .now) ls (b .args .least)),
       omega arith,
-      q .0 ∙ ap (remainTable (b .args .names .now) ls (b .args .least)) (sym z),
+      q .0 ∙ ap (remainTable (b .args .ids .now) ls (b .args .least)) (sym z),
       q .2,
     )
 
@@ -88,15 +88,14 @@ returns c =
     let ls = cutLists (b .args .words .now) (b .args .keys .now) (b .args .starts .now) in
     let t = turn (c .before) in
     let d = l .k - (length (b .args .keys .now) - b .args .least + 1) in
-    let s = later-step (b .args .names .now) ls (b .args .least) d in
+    let s = later-step (b .args .ids .now) ls (b .args .least) d in
     let e : d + 1 + (laterCount ls (b .args .least) - (d + 1)) ≡ laterCount ls (b .args .least) = (let q = t .later in omega arith) in
-    let u = later-up (b .args .names .now) ls (b .args .least) (d + 1) (laterCount ls (b .args .least) - (d + 1)) in
-    let f = ap (laterTouches (b .args .names .now) ls (b .args .least)) e in
+    let u = later-up (b .args .ids .now) ls (b .args .least) (d + 1) (laterCount ls (b .args .least) - (d + 1)) in
+    let f = ap (laterTouches (b .args .ids .now) ls (b .args .least)) e in
     let i = l .inv .5 in
     let m = t .met in
     record {
-      over = sym (lt-ltb (b .args .budget) (laterTouches (b .args .names .now) ls (b .args .least) (laterCount ls (b .args .least))) (omega arith));
-      cost = λ q. absurd (true≢false q);
+      spent = spend-over (laterTouches (b .args .ids .now) ls (b .args .least) (laterCount ls (b .args .least))) (b .args .budget) 0 (omega arith);
       table = λ q. absurd (true≢false q);
       candidates = λ q. absurd (true≢false q);
     }
@@ -136,13 +135,13 @@ sift-requires c κs =
     let ls = cutLists (b .args .words .now) (b .args .keys .now) (b .args .starts .now) in
     let n = length-cut (b .args .words .now) (b .args .keys .now) (b .args .starts .now) in
     let d = l .k - (length (b .args .keys .now) - b .args .least + 1) in (
-      (b .pre .0 .0 .few, rw e (r .ascending (l .k) kl), omega arith),
+      (b .pre .0 .0, rw e (r .ascending (l .k) kl), omega arith),
       (
         l .inv .3,
         l .inv .4,
         l .inv .8,
-        λ i. let a = ap (λ (v : List ℕ). getD v i 0) (l .inv .7) in let m = remain-most (b .args .names .now) ls (b .args .least) d i in omega arith,
-        λ i o. remain-names (b .args .names .now) ls (b .args .least) d i (rw (l .inv .7) at o),
+        λ i. let a = ap (λ (v : List ℕ). getD v i 0) (l .inv .7) in let m = remain-most (b .args .ids .now) ls (b .args .least) d i in omega arith,
+        λ i o. remain-known (b .args .ids .now) ls (b .args .least) d i (rw (l .inv .7) at o),
       ),
     )
 
@@ -164,7 +163,7 @@ loop-again c =
     let ls = cutLists (b .args .words .now) (b .args .keys .now) (b .args .starts .now) in
     let d = l .k - (length (b .args .keys .now) - b .args .least + 1) in
     let e : (l .k + 1) - (length (b .args .keys .now) - b .args .least + 1) ≡ d + 1 = (let q = l .inv .1 in omega arith) in
-    let s = later-step (b .args .names .now) ls (b .args .least) d in
+    let s = later-step (b .args .ids .now) ls (b .args .least) d in
     let h = t .here in
     let m = t .met in
     let u = l .inv .5 in
@@ -178,12 +177,12 @@ loop-again c =
       omega arith,
       y .kept .1 .1 .0 ∙ l .inv .3,
       y .kept .1 .1 .1 .0 ∙ l .inv .4,
-      (let q : l .touches + l .m ≡ laterTouches (b .args .names .now) ls (b .args .least) (d + 1) = omega arith in q) ∙ ap (laterTouches (b .args .names .now) ls (b .args .least)) (sym e),
+      (let q : l .touches + l .m ≡ laterTouches (b .args .ids .now) ls (b .args .least) (d + 1) = omega arith in q) ∙ ap (laterTouches (b .args .ids .now) ls (b .args .least)) (sym e),
       omega arith,
       y .ensures .0
-          ∙ ap₂ (λ (a v : List ℕ). tested (b .args .names .now) a (length (b .args .keys .now) - l .k - 1) (b .args .least) v) list (l .inv .7)
-          ∙ remain-step (b .args .names .now) ls (b .args .least) (p .3) (let q = t .count in omega arith) d (length (b .args .keys .now) - l .k - 1) (t .later) left
-          ∙ ap (remainTable (b .args .names .now) ls (b .args .least)) (sym e),
+          ∙ ap₂ (λ (a v : List ℕ). tested (b .args .ids .now) a (length (b .args .keys .now) - l .k - 1) (b .args .least) v) list (l .inv .7)
+          ∙ remain-step (b .args .ids .now) ls (b .args .least) (p .3) (let q = t .count in omega arith) d (length (b .args .keys .now) - l .k - 1) (t .later) left
+          ∙ ap (remainTable (b .args .ids .now) ls (b .args .least)) (sym e),
       y .ensures .1,
     )
 
@@ -201,12 +200,11 @@ returns-2 c =
     let n = length-cut (b .args .words .now) (b .args .keys .now) (b .args .starts .now) in
     let t = c .loop-test .left in
     let e : l .k - (length (b .args .keys .now) - b .args .least + 1) ≡ laterCount ls (b .args .least) = (let p = b .pre .0 in omega arith) in
-    let f = ap (laterTouches (b .args .names .now) ls (b .args .least)) e in
+    let f = ap (laterTouches (b .args .ids .now) ls (b .args .least)) e in
     let i = l .inv .5 in
     record {
-      over = sym (le-ltb (b .args .budget) (laterTouches (b .args .names .now) ls (b .args .least) (laterCount ls (b .args .least))) (omega arith));
-      cost = λ q. l .inv .5 ∙ f;
-      table = λ q. l .inv .7 ∙ ap (remainTable (b .args .names .now) ls (b .args .least)) e;
+      spent = spend-within (laterTouches (b .args .ids .now) ls (b .args .least) (laterCount ls (b .args .least))) (b .args .budget) (l .touches) (l .inv .5 ∙ f) (omega arith);
+      table = λ q. l .inv .7 ∙ ap (remainTable (b .args .ids .now) ls (b .args .least)) e;
       candidates = λ q. l .inv .8;
     }
 

@@ -2,89 +2,85 @@
 use mathlib.Core.Path.{_≡_, refl, sym, ap, subst₂, _∙_}
 use mathlib.Core.Logic.{⊎-elim}
 use mathlib.Core.List.{List}
-use Prim.Native.Nat.{ℕ, _+_, _*_, _≤_, _<_, _-_}
+use Prim.Native.Nat.{ℕ, _+_, _≤_, _<_, _-_}
 use native.Mathlib.Omega.{arith}
 use lib.ListN.{length, getD, take, set, length-set}
 use lib.Seq.{take-all}
 use Rattle.laws.proofs.Members.{member-at}
 use Rattle.laws.proofs.Sort.{ascending-distinct}
 use Rattle.index.specs.Good.{mostNames}
-use Rattle.candidates.specs.Tables.{idAt, Names, Named, MetBy, tallied}
-use Rattle.candidates.proofs.Tables.{tallied-nil, tallied-step, tallied-bound, name-place, met-room, met-push, met-keep}
+use Rattle.halving.proofs.Search.{place-met}
+use Rattle.candidates.specs.Tables.{MetBy, tallied}
+use Rattle.candidates.proofs.Tables.{tallied-nil, tallied-step, tallied-bound, met-room, met-push, met-keep}
 use Rattle.candidates.proofs.Testing.{distinct-fresh}
 use Rattle.candidates.proofs.tally.Statement.{statement}
 use Rattle.candidates.proofs.tally.Tie as tie
 
 abbrev Inv-loop : tie.InvT-loop
-Inv-loop names list counts₀ met₀ already m₀ next₀ k₀ counts met m next k =
-    (k ≤ length list) × (length counts ≡ mostNames) × (length met ≡ mostNames) × (counts ≡ tallied names (take k list) counts₀) × MetBy counts met m
+Inv-loop ids list counts₀ met₀ already m₀ next₀ k₀ counts met m next k =
+    (k ≤ length list) × (length counts ≡ mostNames) × (length met ≡ mostNames) × (counts ≡ tallied ids (take k list) counts₀) × MetBy counts met m
 
 abbrev μ-loop : tie.MeasureT-loop
-μ-loop names list counts₀ met₀ already m₀ next₀ k₀ counts met m next k = length list - k
+μ-loop ids list counts₀ met₀ already m₀ next₀ k₀ counts met m next k = length list - k
 
 -- the posting's name
-named : (c : tie.In-loop Inv-loop μ-loop) → (i : ℕ) × (i < length (c .before .before .before .before .before .before .args .names .now)) × (idAt (c .before .before .before .before .before .before .args .names .now) i ≡ getD (c .before .before .before .before .before .before .args .list .now) (c .before .loop .k) 0)
-named c =
+known : (c : tie.In-loop Inv-loop μ-loop) → (i : ℕ) × (i < length (c .before .before .before .before .before .before .args .ids .now)) × (getD (c .before .before .before .before .before .before .args .ids .now) i 0 ≡ getD (c .before .before .before .before .before .before .args .list .now) (c .before .loop .k) 0)
+known c =
     let b = c .before .before .before .before .before .before in
     b .pre .0 .3 (getD (b .args .list .now) (c .before .loop .k) 0) (member-at (b .args .list .now) (c .before .loop .k) (c .loop-test .taken))
 
 -- where it is found
-placed : (c : tie.After-place-of Inv-loop μ-loop) → c .place-of .result ≡ named (c .before .before) .0
+placed : (c : tie.After-place-near Inv-loop μ-loop) → c .place-near .result ≡ known (c .before .before) .0
 placed c =
     let b = c .before .before .before .before .before .before .before .before in
-    let w = named (c .before .before) in
-    c .place-of .ensures ∙ name-place (b .args .names .now) (b .pre .0 .0) (w .0) (getD (b .args .list .now) (c .before .before .before .loop .k) 0) (w .1) (w .2)
+    let w = known (c .before .before) in
+    c .place-near .ensures ∙ sym (place-met (b .args .ids .now) (getD (b .args .list .now) (c .before .before .before .loop .k) 0) (w .0) (b .pre .0 .1) (w .1) (w .2))
 
-within : (c : tie.After-place-of Inv-loop μ-loop) → (c .place-of .result < mostNames) × (c .place-of .result < length (c .before .before .before .before .before .before .before .before .args .names .now)) × (idAt (c .before .before .before .before .before .before .before .before .args .names .now) (c .place-of .result) ≡ getD (c .before .before .before .before .before .before .before .before .args .list .now) (c .before .before .before .loop .k) 0)
+within : (c : tie.After-place-near Inv-loop μ-loop) → (c .place-near .result < mostNames) × (c .place-near .result < length (c .before .before .before .before .before .before .before .before .args .ids .now)) × (getD (c .before .before .before .before .before .before .before .before .args .ids .now) (c .place-near .result) 0 ≡ getD (c .before .before .before .before .before .before .before .before .args .list .now) (c .before .before .before .loop .k) 0)
 within c =
     let b = c .before .before .before .before .before .before .before .before in
-    let w = named (c .before .before) in
+    let w = known (c .before .before) in
     let p = placed c in
-    let few = b .pre .0 .0 .few in
+    let few = b .pre .0 .0 in
     let l = w .1 in
-    (omega arith, omega arith, ap (idAt (b .args .names .now)) p ∙ w .2)
+    (omega arith, omega arith, ap (λ (i : ℕ). getD (b .args .ids .now) i 0) p ∙ w .2)
 
 -- the counts are small
 small : (c : tie.At-loop Inv-loop μ-loop) → (i : ℕ) → getD (c .loop .counts) i 0 ≤ 65536
 small c i =
     let b = c .before .before .before .before .before in
-    rw (c .loop .inv .3) (tallied-bound (b .args .names .now) (take (c .loop .k) (b .args .list .now)) (b .args .counts .now) 65535 (b .pre .1 .3) i)
+    rw (c .loop .inv .3) (tallied-bound (b .args .ids .now) (take (c .loop .k) (b .args .list .now)) (b .args .counts .now) 65535 (b .pre .1 .3) i)
 
 -- there is room for one that is met first
 room : (c : tie.Then1 Inv-loop μ-loop) → c .before .before .before .before .before .loop .m < mostNames
 room c =
     let l = c .before .before .before .before .before in
-    met-room (l .loop .counts) (l .loop .met) (l .loop .m) (c .before .before .place-of .result) (l .loop .inv .4) (l .loop .inv .1) (within (c .before .before) .0) (c .if1 .taken)
+    met-room (l .loop .counts) (l .loop .met) (l .loop .m) (c .before .before .place-near .result) (l .loop .inv .4) (l .loop .inv .1) (within (c .before .before) .0) (c .if1 .taken)
 
 -- the counts after the posting
-counted : (c : tie.Joined1 Inv-loop μ-loop) → set (c .before .before .before .before .before .loop .counts) (c .before .before .place-of .result) (getD (c .before .before .before .before .before .loop .counts) (c .before .before .place-of .result) 0 + 1) ≡ tallied (c .before .before .before .before .before .before .before .before .before .before .args .names .now) (take (c .before .before .before .before .before .loop .k + 1) (c .before .before .before .before .before .before .before .before .before .before .args .list .now)) (c .before .before .before .before .before .before .before .before .before .before .args .counts .now)
+counted : (c : tie.Joined1 Inv-loop μ-loop) → set (c .before .before .before .before .before .loop .counts) (c .before .before .place-near .result) (getD (c .before .before .before .before .before .loop .counts) (c .before .before .place-near .result) 0 + 1) ≡ tallied (c .before .before .before .before .before .before .before .before .before .before .args .ids .now) (take (c .before .before .before .before .before .loop .k + 1) (c .before .before .before .before .before .before .before .before .before .before .args .list .now)) (c .before .before .before .before .before .before .before .before .before .before .args .counts .now)
 counted c =
     let l = c .before .before .before .before .before in
     let b = l .before .before .before .before .before in
     let w = within (c .before .before) in
-    ap (λ (t : List ℕ). set t (c .before .before .place-of .result) (getD t (c .before .before .place-of .result) 0 + 1)) (l .loop .inv .3)
-    ∙ tallied-step (b .args .names .now) (b .args .list .now) (b .args .counts .now) (b .pre .0 .0) (l .loop .k) (c .before .before .place-of .result) (c .before .before .before .before .loop-test .taken)
+    ap (λ (t : List ℕ). set t (c .before .before .place-near .result) (getD t (c .before .before .place-near .result) 0 + 1)) (l .loop .inv .3)
+    ∙ tallied-step (b .args .ids .now) (b .args .list .now) (b .args .counts .now) (b .pre .0 .0) (b .pre .0 .1) (l .loop .k) (c .before .before .place-near .result) (c .before .before .before .before .loop-test .taken)
     (distinct-fresh (b .args .list .now) (l .loop .k) (ascending-distinct (b .args .list .now) (b .pre .0 .2)) (c .before .before .before .before .loop-test .taken))
     (w .1) (w .2)
 
 loop-holds : tie.Need-loop-holds Inv-loop μ-loop
 loop-holds c =
     let b = c .before .before .before .before in
-    (omega arith, b .pre .1 .0, b .pre .1 .1, sym (tallied-nil (b .args .names .now) (b .args .list .now) (b .args .counts .now) (b .pre .1 .0)), b .pre .1 .2)
+    (omega arith, b .pre .1 .0, b .pre .1 .1, sym (tallied-nil (b .args .ids .now) (b .args .list .now) (b .args .counts .now) (b .pre .1 .0)), b .pre .1 .2)
 
-mul-place-of : tie.Need-mul-place-of Inv-loop μ-loop
-mul-place-of c = omega arith
+mul-place-near : tie.Need-mul-place-near Inv-loop μ-loop
+mul-place-near c = omega arith
 
-shared-slice-read-place-of : tie.Need-shared-slice-read-place-of Inv-loop μ-loop
-shared-slice-read-place-of c = omega arith
+shared-slice-read-place-near : tie.Need-shared-slice-read-place-near Inv-loop μ-loop
+shared-slice-read-place-near c = omega arith
 
-place-of-requires : tie.Need-place-of-requires Inv-loop μ-loop
-place-of-requires c κs =
-    let b = c .before .before .before .before .before .before .before in
-    let w = named (c .before) in
-    let f = c .before .before .before .before .before .before .shared-slice-known .given (w .0) in
-    let e = w .2 in
-    (b .pre .0 .0, b .pre .0 .1, omega arith)
+place-near-requires : tie.Need-place-near-requires Inv-loop μ-loop
+place-near-requires c κs = c .before .before .before .before .before .before .before .pre .0 .1
 
 add-next : tie.Need-add-next Inv-loop μ-loop
 add-next c = let l = within c .0 in omega arith
@@ -105,7 +101,7 @@ add-m : tie.Need-add-m Inv-loop μ-loop
 add-m c = let r = room c in omega arith
 
 add-counts : tie.Need-add-counts Inv-loop μ-loop
-add-counts c = let s = small (c .before .before .before .before .before) (c .before .before .place-of .result) in omega arith
+add-counts c = let s = small (c .before .before .before .before .before) (c .before .before .place-near .result) in omega arith
 
 mul-counts : tie.Need-mul-counts Inv-loop μ-loop
 mul-counts c = let w = within (c .before .before) in let l = w .0 in omega arith
@@ -122,7 +118,7 @@ loop-less c = omega arith
 loop-again : tie.Need-loop-again Inv-loop μ-loop
 loop-again c =
     let l = c .before .before .before .before .before in
-    let i = c .before .before .place-of .result in
+    let i = c .before .before .place-near .result in
     let w = within (c .before .before) in
     let v = getD (l .loop .counts) i 0 + 1 in
     ⊎-elim
@@ -154,7 +150,7 @@ returns : tie.Need-returns Inv-loop μ-loop
 returns c =
     let l = c .before in
     let b = l .before .before .before .before .before in
-    (l .loop .inv .3 ∙ ap (λ (r : List ℕ). tallied (b .args .names .now) r (b .args .counts .now)) (take-all (l .loop .k) (b .args .list .now) (omega arith)), l .loop .inv .4)
+    (l .loop .inv .3 ∙ ap (λ (r : List ℕ). tallied (b .args .ids .now) r (b .args .counts .now)) (take-all (l .loop .k) (b .args .list .now) (omega arith)), l .loop .inv .4)
 
 pub tally-spec : {M : Type 1} → statement M
 tally-spec =
@@ -163,9 +159,9 @@ tally-spec =
     Inv-loop
     μ-loop
     loop-holds
-    mul-place-of
-    shared-slice-read-place-of
-    place-of-requires
+    mul-place-near
+    shared-slice-read-place-near
+    place-near-requires
     add-next
     mul-count
     slice-read-count

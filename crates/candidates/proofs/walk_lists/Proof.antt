@@ -1,15 +1,16 @@
 -- `walk_lists` meets its contract: the touches of the two phases together, and the answers with what is left.
-use mathlib.Core.Path.{_≡_, refl, sym, ap, ap₂, _∙_}
+use mathlib.Core.Path.{_≡_, refl, sym, ap, subst, _∙_}
 use mathlib.Core.Bool.{true, false, true≢false}
 use mathlib.Core.List.{List}
 use Prim.Native.Nat.{ℕ, _+_, _-_, _≤_, _<_}
 use native.Mathlib.Omega.{arith}
 use borrow.Author.Needs.{needs}
-use borrow.Author.Tests.{lt-ltb, le-ltb, ltb-true, ltb-false}
 use lib.ListN.{length, take, replicate, length-replicate}
 use Rattle.index.specs.Good.{mostNames}
 use Rattle.candidates.specs.Method.{signatures, laterCount}
-use Rattle.candidates.specs.Tables.{MetBy, cutLists, heldTable, remainTable, laterTouches, postingsOf, kept, Gathered, Narrowed, Walked}
+use Rattle.candidates.specs.Spending.{Spending}
+use Rattle.candidates.specs.Tables.{cutLists, heldTable, laterTouches, postingsOf, kept}
+use Rattle.candidates.proofs.Spending.{spent-most, spend-more, spend-both}
 use Rattle.candidates.proofs.Counts.{length-cut, zeros, remain-starts, length-remain}
 use Rattle.candidates.proofs.walk_lists.Statement.{statement}
 use Rattle.candidates.proofs.walk_lists.Tie as tie
@@ -32,40 +33,52 @@ gather-requires c κs =
     let p = b .pre in
     ((p .0, p .1, p .2, (let q = p .4 in let r = p .5 in omega arith), p .3), (zeros, length-replicate {A = ℕ} mostNames 0))
 
+-- the lists of the first phase are the signatures
+all-signatures : (words keys starts : List ℕ) (least : ℕ) → length keys - least + 1 ≡ signatures (length (cutLists words keys starts)) least
+all-signatures words keys starts least = ap (λ (x : ℕ). signatures x least) (sym (length-cut words keys starts))
+
+-- what the first phase came to
+first : (c : tie.After-gather)
+    → let a = c .before .before .before .before .before .before .before .before .args in
+    let ls = cutLists (a .words .now) (a .keys .now) (a .starts .now) in
+    Spending (postingsOf ls (signatures (length ls) (a .least))) (a .budget) (c .gather .result .past) (c .gather .result .touches)
+first c =
+    let a = c .before .before .before .before .before .before .before .before .args in
+    let ls = cutLists (a .words .now) (a .keys .now) (a .starts .now) in
+    subst (λ (n : ℕ). Spending (postingsOf ls n) (a .budget) (c .gather .result .past) (c .gather .result .touches)) (all-signatures (a .words .now) (a .keys .now) (a .starts .now) (a .least)) (c .gather .ensures .spent)
+
+-- what both came to, with u touches
+both : (c : tie.After-narrow) → (u : ℕ)
+    → (c .narrow .result .past ≡ false → u ≡ c .before .before .before .before .before .before .gather .result .touches + c .narrow .result .touches)
+    → let a = c .before .before .before .before .before .before .before .before .before .before .before .before .before .before .args in
+    let ls = cutLists (a .words .now) (a .keys .now) (a .starts .now) in
+    Spending (postingsOf ls (signatures (length ls) (a .least)) + laterTouches (a .ids .now) ls (a .least) (laterCount ls (a .least))) (a .budget) (c .narrow .result .past) u
+both c u e =
+    let g = c .before .before .before .before .before .before in
+    let a = g .before .before .before .before .before .before .before .before .args in
+    let ls = cutLists (a .words .now) (a .keys .now) (a .starts .now) in
+    spend-both (postingsOf ls (signatures (length ls) (a .least))) (a .budget) (g .gather .result .past) (g .gather .result .touches) (first g) (c .before .before .before .if1 .left)
+    (laterTouches (a .ids .now) ls (a .least) (laterCount ls (a .least))) (c .narrow .result .past) (c .narrow .result .touches) u (c .narrow .ensures .spent) e
+
 returns : tie.Need-returns
 returns c =
-    let g = c .before .before .before .gather in
-    let b = c .before .before .before .before .before .before .before .before .before .before .before in
-    let ls = cutLists (b .args .words .now) (b .args .keys .now) (b .args .starts .now) in
-    let n = length-cut (b .args .words .now) (b .args .keys .now) (b .args .starts .now) in
-    let s : length (b .args .keys .now) - b .args .least + 1 ≡ signatures (length ls) (b .args .least) = ap (λ (x : ℕ). signatures x (b .args .least)) (sym n) in
-    let e = g .ensures in
-    let f = ap (postingsOf ls) s in
-    let p : ℕ = postingsOf ls (signatures (length ls) (b .args .least)) in
-    let l : ℕ = laterTouches (b .args .names .now) ls (b .args .least) (laterCount ls (b .args .least)) in
-    let o = ltb-true (b .args .budget) (postingsOf ls (length (b .args .keys .now) - b .args .least + 1)) (sym (e .over) ∙ c .if1 .taken) in
+    let g = c .before .before .before in
+    let a = g .before .before .before .before .before .before .before .before .args in
+    let ls = cutLists (a .words .now) (a .keys .now) (a .starts .now) in
+    let p : ℕ = postingsOf ls (signatures (length ls) (a .least)) in
+    let l : ℕ = laterTouches (a .ids .now) ls (a .least) (laterCount ls (a .least)) in
     record {
-      over = sym (lt-ltb (b .args .budget) (p + l) (omega arith));
-      cost = λ q. absurd (true≢false q);
+      spent = spend-more p (p + l) (a .budget) (g .gather .result .past) (g .gather .result .touches) 0 (first g) (c .if1 .taken) (omega arith);
       answers = λ q. absurd (true≢false q);
       none = λ q. (refl, refl);
     }
 
 sub-narrow : tie.Need-sub-narrow
 sub-narrow c =
-    let g = c .before .before .before .gather in
-    let b = c .before .before .before .before .before .before .before .before .before .before .before in
-    let ls = cutLists (b .args .words .now) (b .args .keys .now) (b .args .starts .now) in
-    let n = length-cut (b .args .words .now) (b .args .keys .now) (b .args .starts .now) in
-    let s : length (b .args .keys .now) - b .args .least + 1 ≡ signatures (length ls) (b .args .least) = ap (λ (x : ℕ). signatures x (b .args .least)) (sym n) in
-    let e = g .ensures in
-    let f = ap (postingsOf ls) s in
-    let p : ℕ = postingsOf ls (signatures (length ls) (b .args .least)) in
-    let l : ℕ = laterTouches (b .args .names .now) ls (b .args .least) (laterCount ls (b .args .least)) in
-    let nop : g .result .past ≡ false = c .if1 .left in
-    let c1 = e .cost nop in
-    let o1 = ltb-false (b .args .budget) (postingsOf ls (length (b .args .keys .now) - b .args .least + 1)) (sym (e .over) ∙ nop) in
-    omega arith
+    let g = c .before .before .before in
+    let a = g .before .before .before .before .before .before .before .before .args in
+    let ls = cutLists (a .words .now) (a .keys .now) (a .starts .now) in
+    spent-most (postingsOf ls (signatures (length ls) (a .least))) (a .budget) (g .gather .result .past) (g .gather .result .touches) (first g) (c .if1 .left) .1
 
 slice-aggregate-narrow : tie.Need-slice-aggregate-narrow
 slice-aggregate-narrow c = search needs
@@ -77,45 +90,25 @@ narrow-requires : tie.Need-narrow-requires
 narrow-requires c κs =
     let g = c .before .before .before .before .before .gather in
     let b = c .before .before .before .before .before .before .before .before .before .before .before .before .before in
-    let ls = cutLists (b .args .words .now) (b .args .keys .now) (b .args .starts .now) in
-    let n = length-cut (b .args .words .now) (b .args .keys .now) (b .args .starts .now) in
-    let s : length (b .args .keys .now) - b .args .least + 1 ≡ signatures (length ls) (b .args .least) = ap (λ (x : ℕ). signatures x (b .args .least)) (sym n) in
-    let e = g .ensures in
-    let f = ap (postingsOf ls) s in
-    let p : ℕ = postingsOf ls (signatures (length ls) (b .args .least)) in
-    let l : ℕ = laterTouches (b .args .names .now) ls (b .args .least) (laterCount ls (b .args .least)) in
-    let nop : g .result .past ≡ false = c .before .before .if1 .left in
-    let c1 = e .cost nop in
-    let o1 = ltb-false (b .args .budget) (postingsOf ls (length (b .args .keys .now) - b .args .least + 1)) (sym (e .over) ∙ nop) in
+    let a = b .args in
+    let ls = cutLists (a .words .now) (a .keys .now) (a .starts .now) in
+    let n = length-cut (a .words .now) (a .keys .now) (a .starts .now) in
     let q = b .pre in
-    let start = remain-starts (b .args .names .now) ls (b .args .least) (q .4) (let r = q .5 in omega arith) in (
+    let nop : g .result .past ≡ false = c .before .before .if1 .left in
+    let start = remain-starts (a .ids .now) ls (a .least) (q .4) (let r = q .5 in omega arith) in (
       (q .0, q .2, q .3, q .4, q .5),
       (
-        e .table nop ∙ ap (λ (x : ℕ). heldTable (b .args .names .now) (take x ls)) s ∙ start,
+        g .ensures .table nop ∙ ap (λ (x : ℕ). heldTable (a .ids .now) (take x ls)) (all-signatures (a .words .now) (a .keys .now) (a .starts .now) (a .least)) ∙ start,
         g .kept .1 .1 .1 .1 .1 .1 .1 .0 ∙ length-replicate {A = ℕ} mostNames 0,
-        e .candidates nop,
+        g .ensures .candidates nop,
       ),
     )
 
 returns-2 : tie.Need-returns-2
 returns-2 c =
-    let g = c .before .before .before .before .before .before .before .before .before .gather in
-    let b = c .before .before .before .before .before .before .before .before .before .before .before .before .before .before .before .before .before in
-    let ls = cutLists (b .args .words .now) (b .args .keys .now) (b .args .starts .now) in
-    let n = length-cut (b .args .words .now) (b .args .keys .now) (b .args .starts .now) in
-    let s : length (b .args .keys .now) - b .args .least + 1 ≡ signatures (length ls) (b .args .least) = ap (λ (x : ℕ). signatures x (b .args .least)) (sym n) in
-    let e = g .ensures in
-    let f = ap (postingsOf ls) s in
-    let p : ℕ = postingsOf ls (signatures (length ls) (b .args .least)) in
-    let l : ℕ = laterTouches (b .args .names .now) ls (b .args .least) (laterCount ls (b .args .least)) in
-    let nop : g .result .past ≡ false = c .before .before .before .before .before .before .if1 .left in
-    let c1 = e .cost nop in
-    let o1 = ltb-false (b .args .budget) (postingsOf ls (length (b .args .keys .now) - b .args .least + 1)) (sym (e .over) ∙ nop) in
-    let w = c .before .before .before .narrow .ensures in
-    let o = ltb-true (b .args .budget - g .result .touches) l (sym (w .over) ∙ c .if2 .taken) in
+    let w = c .before .before .before in
     record {
-      over = sym (lt-ltb (b .args .budget) (p + l) (omega arith));
-      cost = λ q. absurd (true≢false q);
+      spent = rw (c .if2 .taken) at (both w 0 (λ q. absurd (true≢false (sym (c .if2 .taken) ∙ q))));
       answers = λ q. absurd (true≢false q);
       none = λ q. (refl, refl);
     }
@@ -128,38 +121,21 @@ slice-aggregate-keep-2 c = search needs
 
 keep-requires : tie.Need-keep-requires
 keep-requires c κs =
-    let g = c .before .before .before .before .before .before .before .before .before .before .before .before .gather in
     let b = c .before .before .before .before .before .before .before .before .before .before .before .before .before .before .before .before .before .before .before .before in
-    let ls = cutLists (b .args .words .now) (b .args .keys .now) (b .args .starts .now) in
-    let n = length-cut (b .args .words .now) (b .args .keys .now) (b .args .starts .now) in
-    let s : length (b .args .keys .now) - b .args .least + 1 ≡ signatures (length ls) (b .args .least) = ap (λ (x : ℕ). signatures x (b .args .least)) (sym n) in
-    let e = g .ensures in
-    let f = ap (postingsOf ls) s in
-    let p : ℕ = postingsOf ls (signatures (length ls) (b .args .least)) in
-    let l : ℕ = laterTouches (b .args .names .now) ls (b .args .least) (laterCount ls (b .args .least)) in
+    let a = b .args in
+    let ls = cutLists (a .words .now) (a .keys .now) (a .starts .now) in
     let w = c .before .before .before .before .before .before .narrow .ensures in
-    let t = w .table (c .before .before .before .if2 .left) in
-    (ap length t ∙ length-remain (b .args .names .now) ls (b .args .least) (laterCount ls (b .args .least)), w .candidates (c .before .before .before .if2 .left), b .pre .6)
+    let nop = c .before .before .before .if2 .left in
+    (ap length (w .table nop) ∙ length-remain (a .ids .now) ls (a .least) (laterCount ls (a .least)), w .candidates nop, b .pre .6)
 
 add-t15 : tie.Need-add-t15
 add-t15 c =
-    let g = c .before .before .before .before .before .before .before .before .before .before .before .before .before .before .before .before .gather in
-    let b = c .before .before .before .before .before .before .before .before .before .before .before .before .before .before .before .before .before .before .before .before .before .before .before .before in
-    let ls = cutLists (b .args .words .now) (b .args .keys .now) (b .args .starts .now) in
-    let n = length-cut (b .args .words .now) (b .args .keys .now) (b .args .starts .now) in
-    let s : length (b .args .keys .now) - b .args .least + 1 ≡ signatures (length ls) (b .args .least) = ap (λ (x : ℕ). signatures x (b .args .least)) (sym n) in
-    let e = g .ensures in
-    let f = ap (postingsOf ls) s in
-    let p : ℕ = postingsOf ls (signatures (length ls) (b .args .least)) in
-    let l : ℕ = laterTouches (b .args .names .now) ls (b .args .least) (laterCount ls (b .args .least)) in
-    let nop : g .result .past ≡ false = c .before .before .before .before .before .before .before .before .before .before .before .before .before .if1 .left in
-    let c1 = e .cost nop in
-    let o1 = ltb-false (b .args .budget) (postingsOf ls (length (b .args .keys .now) - b .args .least + 1)) (sym (e .over) ∙ nop) in
-    let w = c .before .before .before .before .before .before .before .before .before .before .narrow .ensures in
-    let nop2 = c .before .before .before .before .before .before .before .if2 .left in
-    let c2 = w .cost nop2 in
-    let o2 = ltb-false (b .args .budget - g .result .touches) l (sym (w .over) ∙ nop2) in
-    let y = b .fits .budget in
+    let w = c .before .before .before .before .before .before .before .before .before .before in
+    let a = c .before .before .before .before .before .before .before .before .before .before .before .before .before .before .before .before .before .before .before .before .before .before .before .before .args in
+    let ls = cutLists (a .words .now) (a .keys .now) (a .starts .now) in
+    let u = w .before .before .before .before .before .before .gather .result .touches + w .narrow .result .touches in
+    let m = spent-most (postingsOf ls (signatures (length ls) (a .least)) + laterTouches (a .ids .now) ls (a .least) (laterCount ls (a .least))) (a .budget) (w .narrow .result .past) u (both w u (λ q. refl)) (c .before .before .before .before .before .before .before .if2 .left) .1 in
+    let y = c .before .before .before .before .before .before .before .before .before .before .before .before .before .before .before .before .before .before .before .before .before .before .before .before .fits .budget in
     omega arith
 
 same-length : tie.Need-same-length
@@ -167,26 +143,12 @@ same-length c = search needs
 
 returns-3 : tie.Need-returns-3
 returns-3 c =
-    let g = c .before .before .before .before .before .before .before .before .before .before .before .before .before .before .before .before .gather in
+    let w = c .before .before .before .before .before .before .before .before .before .before in
     let b = c .before .before .before .before .before .before .before .before .before .before .before .before .before .before .before .before .before .before .before .before .before .before .before .before in
-    let ls = cutLists (b .args .words .now) (b .args .keys .now) (b .args .starts .now) in
-    let n = length-cut (b .args .words .now) (b .args .keys .now) (b .args .starts .now) in
-    let s : length (b .args .keys .now) - b .args .least + 1 ≡ signatures (length ls) (b .args .least) = ap (λ (x : ℕ). signatures x (b .args .least)) (sym n) in
-    let e = g .ensures in
-    let f = ap (postingsOf ls) s in
-    let p : ℕ = postingsOf ls (signatures (length ls) (b .args .least)) in
-    let l : ℕ = laterTouches (b .args .names .now) ls (b .args .least) (laterCount ls (b .args .least)) in
-    let nop : g .result .past ≡ false = c .before .before .before .before .before .before .before .before .before .before .before .before .before .if1 .left in
-    let c1 = e .cost nop in
-    let o1 = ltb-false (b .args .budget) (postingsOf ls (length (b .args .keys .now) - b .args .least + 1)) (sym (e .over) ∙ nop) in
-    let w = c .before .before .before .before .before .before .before .before .before .before .narrow .ensures in
-    let nop2 = c .before .before .before .before .before .before .before .if2 .left in
-    let c2 = w .cost nop2 in
-    let o2 = ltb-false (b .args .budget - g .result .touches) l (sym (w .over) ∙ nop2) in
+    let nop = c .before .before .before .before .before .before .before .if2 .left in
     record {
-      over = sym (le-ltb (b .args .budget) (p + l) (omega arith));
-      cost = λ q. (let z : g .result .touches + c .before .before .before .before .before .before .before .before .before .before .narrow .result .touches ≡ p + l = omega arith in z);
-      answers = λ q. c .before .before .before .keep .ensures ∙ ap (λ (v : List ℕ). kept v (b .args .answers .now)) (w .table nop2);
+      spent = rw nop at (both w (w .before .before .before .before .before .before .gather .result .touches + w .narrow .result .touches) (λ q. refl));
+      answers = λ q. c .before .before .before .keep .ensures ∙ ap (λ (v : List ℕ). kept v (b .args .answers .now)) (w .narrow .ensures .table nop);
       none = λ q. absurd (true≢false (sym q));
     }
 

@@ -106,7 +106,7 @@ place-if-requires c κs =
     let s = c .before .before .before .before .before .before in
     let h = good-within (s .args .words .now) (s .pre .0) in
     let f = s .pre .2 in
-    (looked c .inside, omega arith)
+    (let l = looked c .inside in omega arith, omega arith)
 
 returns-2 : tie.Need-returns-2
 returns-2 c =

@@ -13,10 +13,11 @@ use lib.Seq.{length-take-le, take-at}
 use Rattle.laws.specs.Lists.{Ascending}
 use Rattle.index.specs.Good.{mostNames}
 use Rattle.candidates.specs.Method.{signatures, laterCount}
-use Rattle.candidates.specs.Tables.{Names, Readable, cutLists, postingsOf, laterTouches, remainTable, kept, Walked}
+use Rattle.candidates.specs.Tables.{Readable, cutLists, postingsOf, laterTouches, remainTable, kept, Walked}
 use Rattle.search.specs.Method.{listsFor, touchesAt}
-use Rattle.search.specs.Tables.{filledOf, nameWords, Asked, Sized}
-use Rattle.search.proofs.Size.{names-fine, names-rise, length-keys, cut-lists, cut-readable, touches-at}
+use Rattle.search.specs.Tables.{filledOf, idsOf, Asked, Sized}
+use Rattle.candidates.proofs.Spending.{spend-within}
+use Rattle.search.proofs.Size.{ids-few, ids-rise, length-keys, cut-lists, cut-readable, touches-at}
 use Rattle.search.proofs.Idle.{idle-touches, idle-answers}
 use Rattle.search.proofs.one_size.Statement.{statement}
 use Rattle.search.proofs.one_size.Tie as tie
@@ -43,8 +44,7 @@ returns c =
     let few = leb-false (b .args .least) (filledOf w y f (length f)) (sym (o .ensures .0) ∙ not-true _ (c .if1 .taken)) in
     let z = idle-touches w y f (b .pre .2) (b .args .least) (b .pre .3) (b .pre .4) few in
     record {
-      over = sym (le-ltb (b .args .budget) (touchesAt w y (listsFor w y f) (b .args .least)) (omega arith));
-      cost = λ e. sym z;
+      spent = spend-within (touchesAt w y (listsFor w y f) (b .args .least)) (b .args .budget) 0 (sym z) (omega arith);
       answers = λ e. idle-answers w y f (b .pre .2) (b .args .least) (b .pre .3) (b .pre .4) few (b .args .answers .now) (b .pre .5);
     }
 
@@ -85,10 +85,10 @@ walk-lists-requires c κs =
     let room : length f ≤ length starts = (let q = o .kept .1 .1 .1 .1 .0 in let p = b .pre .2 .few in omega arith) in
     let w = b .args .words .now in
     let y = b .args .size in
-    let e : b .args .names .now ≡ nameWords w = b .pre .1 in
+    let e : b .args .ids .now ≡ idsOf w = b .pre .1 in
     let l = length-keys w (b .pre .0) y f (b .pre .2) keys starts (u .0) (u .1) room in (
-      subst Names (sym e) (names-fine w (b .pre .0)),
-      subst Ascending (sym e) (names-rise w (b .pre .0)),
+      subst (λ (l : List ℕ). length l ≤ mostNames) (sym e) (ids-few w (b .pre .0)),
+      subst Ascending (sym e) (ids-rise w (b .pre .0)),
       rw (front, e) (cut-readable w (b .pre .0) y f (b .pre .2) keys starts (u .0) (u .1) room),
       rw front (let q = b .pre .2 .few in omega arith),
       b .pre .3,
@@ -112,16 +112,15 @@ returns-2 c =
     let room : length f ≤ length starts = (let q = o .kept .1 .1 .1 .1 .0 in let p = b .pre .2 .few in omega arith) in
     let w = b .args .words .now in
     let y = b .args .size in
-    let e : b .args .names .now ≡ nameWords w = b .pre .1 in
+    let e : b .args .ids .now ≡ idsOf w = b .pre .1 in
     let ls : cutLists w (take (length f) (keys ++ drop (length f) (replicate 66 0))) starts ≡ listsFor w y f = ap (λ (r : List ℕ). cutLists w r starts) front ∙ cut-lists w (b .pre .0) y f (b .pre .2) keys starts (u .0) (u .1) room in
     let v = c .before .before .walk-lists .ensures in
     let t = touches-at w (b .pre .0) y f (b .pre .2) (b .args .least) in
-    let h : postingsOf (cutLists w (take (length f) (keys ++ drop (length f) (replicate 66 0))) starts) (signatures (length (cutLists w (take (length f) (keys ++ drop (length f) (replicate 66 0))) starts)) (b .args .least)) + laterTouches (b .args .names .now) (cutLists w (take (length f) (keys ++ drop (length f) (replicate 66 0))) starts) (b .args .least) (laterCount (cutLists w (take (length f) (keys ++ drop (length f) (replicate 66 0))) starts) (b .args .least)) ≡ touchesAt w y (listsFor w y f) (b .args .least) =
+    let h : postingsOf (cutLists w (take (length f) (keys ++ drop (length f) (replicate 66 0))) starts) (signatures (length (cutLists w (take (length f) (keys ++ drop (length f) (replicate 66 0))) starts)) (b .args .least)) + laterTouches (b .args .ids .now) (cutLists w (take (length f) (keys ++ drop (length f) (replicate 66 0))) starts) (b .args .least) (laterCount (cutLists w (take (length f) (keys ++ drop (length f) (replicate 66 0))) starts) (b .args .least)) ≡ touchesAt w y (listsFor w y f) (b .args .least) =
     ap₂ (λ (r : List (List ℕ)) (m : List ℕ). postingsOf r (signatures (length r) (b .args .least)) + laterTouches m r (b .args .least) (laterCount r (b .args .least))) ls e ∙ sym t
     in
     record {
-      over = v .over ∙ ap (ltb (b .args .budget)) h;
-      cost = λ q. v .cost q ∙ h;
+      spent = rw h at (v .spent);
       answers = λ q. v .answers q ∙ ap₂ (λ (r : List (List ℕ)) (m : List ℕ). kept (remainTable m r (b .args .least) (laterCount r (b .args .least))) (b .args .answers .now)) ls e;
     }
 

@@ -1,18 +1,20 @@
 -- `run` meets its contract: 7 where the sizes go past the allowance, 8 where the answers exceed the room, the rows otherwise.
-use mathlib.Core.Path.{_≡_, ap, _∙_}
+use mathlib.Core.Path.{_≡_, sym, ap, ap₂, _∙_}
+use mathlib.Core.List.{List, _++_}
 use Prim.Native.Nat.{ℕ, _+_, _-_, _≤_, _<_, min}
 use native.Mathlib.Omega.{arith}
 use borrow.Author.Needs.{needs}
-use lib.ListN.{length, take, drop}
+use lib.ListN.{length, take, drop, replicate, length-append, length-drop, length-replicate}
+use lib.Seq.{take-at, length-take-le}
 use Rattle.likeness.specs.declared.Threshold.{Threshold}
 use Rattle.words.specs.Words.{nameCount}
-use Rattle.index.proofs.Laws.{good-three, good-within, good-names-most}
-use Rattle.search.specs.Tables.{nameWords, placesIn}
+use Rattle.index.specs.Good.{mostNames}
+use Rattle.index.proofs.Laws.{good-three, good-names-most}
+use Rattle.search.specs.Tables.{idsOf, placesIn}
 use Rattle.search.specs.Answers.{asColumns, roomOf}
 use Rattle.search.specs.declared.Answer.the-variants.{Found}
-use Rattle.search.proofs.Answered.{names-cut}
 use Rattle.search.proofs.Rows.{places-most}
-use Rattle.search.proofs.Size.{length-names}
+use Rattle.search.proofs.Size.{length-ids, ids-few}
 use Rattle.search.proofs.Running.{Runs, ran-past, ran-wide, ran-enough, ran-full, ran-found}
 use Rattle.search.proofs.run.Statement.{statement}
 use Rattle.search.proofs.run.Tie as tie
@@ -20,40 +22,47 @@ use Rattle.search.proofs.run.Tie as tie
 name-count-requires : tie.Need-name-count-requires
 name-count-requires c κs = good-three _ (c .before .before .before .before .before .pre .0)
 
-add-names : tie.Need-add-names
-add-names c = search needs
+name-ids-requires : tie.Need-name-ids-requires
+name-ids-requires c κs = search needs
 
-sub-names : tie.Need-sub-names
-sub-names c = search needs
+-- the table has room for the ids, and they stand in front
+pub record Ids (c : tie.After-name-ids) : Type 0 where
+  pub room : c .before .name-count .result ≤ length (c .name-ids .result)
+  pub front : take (c .before .name-count .result) (c .name-ids .result) ≡ idsOf (c .before .before .before .before .before .before .before .args .words .now)
 
-part-names-start : tie.Need-part-names-start
-part-names-start c = search needs
+ids : (c : tie.After-name-ids) → Ids c
+ids c =
+    let b = c .before .before .before .before .before .before .before in
+    let w = b .args .words .now in
+    let n = c .before .name-count .ensures .0 in
+    let l = length-ids w in
+    let rest : List ℕ = drop (nameCount w) (replicate mostNames 0) in
+    let m = ap length (c .name-ids .ensures) ∙ length-append (idsOf w) rest in
+    record {
+      room = omega arith;
+      front = ap₂ take n (c .name-ids .ensures) ∙ take-at (idsOf w) rest (nameCount w) l;
+    }
 
-part-names-end : tie.Need-part-names-end
-part-names-end c =
-    let b = c .before .before .before .before .before .before in
-    let g = good-within (b .args .words .now) (b .pre .0) in
-    let e = c .name-count .ensures .0 in
-    omega arith
+array-share-prefix-table : tie.Need-array-share-prefix-table
+array-share-prefix-table c = ids c .room
 
--- the names are the words' names
-names : (c : tie.After-name-count) → let w = c .before .before .before .before .before .before .args .words .now in take (3 + c .name-count .result - 3) (drop 3 w) ≡ nameWords w
-names c = names-cut (c .before .before .before .before .before .before .args .words .now) (c .name-count .result) (c .name-count .ensures .0)
+slice-aggregate-cover-sizes : tie.Need-slice-aggregate-cover-sizes
+slice-aggregate-cover-sizes c = sym (length-take-le (c .before .before .name-count .result) (c .before .name-ids .result) (ids (c .before) .room))
 
 cover-sizes-requires : tie.Need-cover-sizes-requires
-cover-sizes-requires c κs = let b = c .before .before .before .before .before .before .before in (b .pre .0, names (c .before), b .pre .1, b .pre .2)
+cover-sizes-requires c κs = let b = c .before .before .before .before .before .before .before .before in (b .pre .0, ids (c .before) .front, b .pre .1, b .pre .2)
 
 -- what all sizes came to
 runs : (c : tie.After-cover-sizes)
-    → let a = c .before .before .before .before .before .before .before .before .args in let v = c .cover-sizes .result in Runs (a .query .now) (a .measure) (a .p) (a .q) (a .allowance) (a .words .now) (v .answers) (v .past) (v .touches)
+    → let a = c .before .before .before .before .before .before .before .before .before .args in let v = c .cover-sizes .result in Runs (a .query .now) (a .measure) (a .p) (a .q) (a .allowance) (a .words .now) (v .answers) (v .past) (v .touches)
 runs c =
-    let b = c .before .before .before .before .before .before .before .before in
+    let b = c .before .before .before .before .before .before .before .before .before in
     record {
       good = b .pre .0;
       judged = b .pre .1;
       known = b .pre .2;
       exact = b .pre .3;
-      bytes = λ j. (let z = c .before .before .before .before .before .before .before .shared-slice-known .given j in omega arith);
+      bytes = λ j. (let z = c .before .before .before .before .before .before .before .before .shared-slice-known .given j in omega arith);
       covered = c .cover-sizes .ensures;
     }
 
@@ -63,7 +72,7 @@ returns c = ran-past (runs (c .before)) (c .if1 .taken) _
 cast-touches : tie.Need-cast-touches
 cast-touches c =
     let h = ran-enough (runs (c .before .before)) (c .before .if1 .left) in
-    let z = c .before .before .before .before .before .before .before .before .before .before .fits .allowance in
+    let z = c .before .before .before .before .before .before .before .before .before .before .before .fits .allowance in
     omega arith
 
 slice-aggregate-count-answers : tie.Need-slice-aggregate-count-answers
@@ -72,8 +81,8 @@ slice-aggregate-count-answers c = search needs
 count-answers-requires : tie.Need-count-answers-requires
 count-answers-requires c κs =
     let h = ran-wide (runs (c .before .before .before .before)) (c .before .before .before .if1 .left) in
-    let g = good-names-most _ (c .before .before .before .before .before .before .before .before .before .before .before .before .pre .0) in
-    let e = c .before .before .before .before .before .before .name-count .ensures .0 in
+    let g = good-names-most _ (c .before .before .before .before .before .before .before .before .before .before .before .before .before .pre .0) in
+    let e = c .before .before .before .before .before .before .before .name-count .ensures .0 in
     omega arith
 
 smaller-requires : tie.Need-smaller-requires
@@ -84,10 +93,10 @@ smaller-requires-2 c κs = search needs
 
 -- how many answers there are, and how much room
 counted : (c : tie.After-smaller2)
-    → let a = c .before .before .before .before .before .before .before .before .before .before .before .before .before .before .before .args in (c .before .before .count-answers .result ≡ length (placesIn (c .before .before .before .before .before .before .before .cover-sizes .result .answers) (nameCount (a .words .now)))) × (c .smaller2 .result ≡ roomOf (asColumns (a .ids .now) (a .shared .now) (a .sizes .now)))
+    → let a = c .before .before .before .before .before .before .before .before .before .before .before .before .before .before .before .before .args in (c .before .before .count-answers .result ≡ length (placesIn (c .before .before .before .before .before .before .before .cover-sizes .result .answers) (nameCount (a .words .now)))) × (c .smaller2 .result ≡ roomOf (asColumns (a .ids .now) (a .shared .now) (a .sizes .now)))
 counted c =
-    let a = c .before .before .before .before .before .before .before .before .before .before .before .before .before .before .before .args in (
-      c .before .before .count-answers .ensures ∙ ap (λ (n : ℕ). length (placesIn (c .before .before .before .before .before .before .before .cover-sizes .result .answers) n)) (c .before .before .before .before .before .before .before .before .before .name-count .ensures .0),
+    let a = c .before .before .before .before .before .before .before .before .before .before .before .before .before .before .before .before .args in (
+      c .before .before .count-answers .ensures ∙ ap (λ (n : ℕ). length (placesIn (c .before .before .before .before .before .before .before .cover-sizes .result .answers) n)) (c .before .before .before .before .before .before .before .before .before .before .name-count .ensures .0),
       c .smaller2 .ensures ∙ ap (min (length (a .ids .now))) (c .before .smaller .ensures),
     )
 
@@ -104,27 +113,25 @@ slice-aggregate-write-rows c = search needs
 
 write-rows-requires : tie.Need-write-rows-requires
 write-rows-requires c κs =
-    let b = c .before .before .before .before .before .before .before .before .before .before .before .before .before .before .before .before .before .before .before .before in
+    let b = c .before .before .before .before .before .before .before .before .before .before .before .before .before .before .before .before .before .before .before .before .before in
     let w = b .args .words .now in
     let v = c .before .before .before .before .before .before .before .before .before .before .before .before in
-    let nl = ap length (names (c .before .before .before .before .before .before .before .before .before .before .before .before .before .before)) ∙ length-names w (b .pre .0) in
-    let pl = ap (λ (k : ℕ). length (placesIn (v .cover-sizes .result .answers) k)) nl in
     let wide = ran-wide (runs v) (c .before .before .before .before .before .before .before .before .before .before .before .if1 .left) in
     let few = good-names-most w (b .pre .0) in
     let n = counted (c .before .before .before .before .before) in
     let n0 = n .0 in
     let n1 = n .1 in
     let h = c .before .before .before .before .if2 .left in
-    (omega arith, omega arith, omega arith, omega arith)
+    (b .pre .0, omega arith, omega arith, omega arith, omega arith)
 
 lowest-requires : tie.Need-lowest-requires
 lowest-requires c κs = search needs
 
-cast-t36 : tie.Need-cast-t36
-cast-t36 c =
+cast-t37 : tie.Need-cast-t37
+cast-t37 c =
     let z = counted (c .before .before .before .before .before .before .before .before .before .before .before .before .before) .0 in
-    let g = good-names-most _ (c .before .before .before .before .before .before .before .before .before .before .before .before .before .before .before .before .before .before .before .before .before .before .before .before .before .before .before .before .pre .0) in
-    let y = places-most (c .before .before .before .before .before .before .before .before .before .before .before .before .before .before .before .before .before .before .before .before .cover-sizes .result .answers) (nameCount (c .before .before .before .before .before .before .before .before .before .before .before .before .before .before .before .before .before .before .before .before .before .before .before .before .before .before .before .before .args .words .now)) in
+    let g = good-names-most _ (c .before .before .before .before .before .before .before .before .before .before .before .before .before .before .before .before .before .before .before .before .before .before .before .before .before .before .before .before .before .pre .0) in
+    let y = places-most (c .before .before .before .before .before .before .before .before .before .before .before .before .before .before .before .before .before .before .before .before .cover-sizes .result .answers) (nameCount (c .before .before .before .before .before .before .before .before .before .before .before .before .before .before .before .before .before .before .before .before .before .before .before .before .before .before .before .before .before .args .words .now)) in
     omega arith
 
 same-length : tie.Need-same-length
@@ -144,9 +151,9 @@ returns-3 c =
     let h = c .before .before .before .before .before .before .before .before .before .before .before .before .if2 .left in
     let wr = c .before .before .before .before .before .before .before .write-rows .ensures in
     let v = c .before .before .before .before .before .before .before .before .before .before .before .before .before .before .before .before .before .before .before .before in
-    let a = c .before .before .before .before .before .before .before .before .before .before .before .before .before .before .before .before .before .before .before .before .before .before .before .before .before .before .before .before .args in
+    let a = c .before .before .before .before .before .before .before .before .before .before .before .before .before .before .before .before .before .before .before .before .before .before .before .before .before .before .before .before .before .args in
     let lent = asColumns (a .ids .now) (a .shared .now) (a .sizes .now) in
-    let f = ran-found (runs v) (c .before .before .before .before .before .before .before .before .before .before .before .before .before .before .before .before .before .before .before .if1 .left) _ (names (c .before .before .before .before .before .before .before .before .before .before .before .before .before .before .before .before .before .before .before .before .before .before)) lent _ (c .before .before .before .before .before .before .before .before .before .before .before .before .before .before .before .count-answers .result) n0 (omega arith) (λ t. asColumns (wr .0 t) (wr .1 .0 t) (wr .1 .1 t)) in
+    let f = ran-found (runs v) (c .before .before .before .before .before .before .before .before .before .before .before .before .before .before .before .before .before .before .before .if1 .left) lent _ (c .before .before .before .before .before .before .before .before .before .before .before .before .before .before .before .count-answers .result) n0 (omega arith) (λ t. asColumns (wr .0 t) (wr .1 .0 t) (wr .1 .1 t)) in
     record {
       answer = ap (λ (t : Threshold). Found (c .before .before .before .before .before .before .before .before .before .before .before .before .before .before .before .count-answers .result) (v .cover-sizes .result .touches) (t .p) (t .q)) (c .lowest .ensures) ∙ f .answer;
       columns = f .columns;
@@ -157,10 +164,9 @@ run-spec =
     tie.close
     (tie.spec
     name-count-requires
-    add-names
-    sub-names
-    part-names-start
-    part-names-end
+    name-ids-requires
+    array-share-prefix-table
+    slice-aggregate-cover-sizes
     cover-sizes-requires
     returns
     cast-touches
@@ -172,7 +178,7 @@ run-spec =
     slice-aggregate-write-rows
     write-rows-requires
     lowest-requires
-    cast-t36
+    cast-t37
     same-length
     same-length-2
     same-length-3

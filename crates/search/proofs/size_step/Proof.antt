@@ -6,8 +6,7 @@ use mathlib.Core.List.{List}
 use Prim.Native.Nat.{ℕ, _+_, _≤_, _<_}
 use native.Mathlib.Omega.{arith}
 use borrow.Author.Needs.{needs}
-use borrow.Author.Tests.{le-ltb, not-true, not-false}
-use lib.Dec.{ltb}
+use borrow.Author.Tests.{not-true, not-false}
 use lib.ListN.{length}
 use Rattle.laws.proofs.Order.{eq-or-ne}
 use Rattle.likeness.specs.Least.{leastCount}
@@ -16,8 +15,9 @@ use Rattle.likeness.proofs.Sizes.{searched-good}
 use Rattle.index.specs.Good.{mostNames}
 use Rattle.candidates.specs.Method.{laterCount}
 use Rattle.candidates.specs.Tables.{remainTable, kept}
+use Rattle.candidates.proofs.Spending.{spend-within}
 use Rattle.search.specs.Method.{listsFor, touchesAt, touchesOfSize}
-use Rattle.search.specs.Tables.{presentAt, nameWords, Sized, Stepped, answersTable}
+use Rattle.search.specs.Tables.{presentAt, idsOf, Sized, Stepped, answersTable}
 use Rattle.search.proofs.Present.{present-none, present-of-none}
 use Rattle.search.proofs.Work.{nobody-zero}
 use Rattle.search.proofs.Answering.{answers-skipped, unsearched, nobody, answers-searched, length-answers, touches-searched, touches-unsearched, touches-nobody}
@@ -29,8 +29,7 @@ returns c =
     let b = c .before .before .before .before .before in
     let z = touches-nobody (b .args .words .now) (b .pre .0) (b .args .measure) (b .args .p) (b .args .q) (b .args .features .now) (b .pre .2) (b .args .y) (present-none (b .args .words .now) (b .args .y) (sym (b .pre .5) ∙ c .if1 .taken)) in
     record {
-      over = sym (le-ltb (b .args .budget) (touchesOfSize (b .args .words .now) (b .args .measure) (b .args .p) (b .args .q) (b .args .features .now) (b .args .y)) (omega arith));
-      cost = λ e. sym z;
+      spent = spend-within (touchesOfSize (b .args .words .now) (b .args .measure) (b .args .p) (b .args .q) (b .args .features .now) (b .args .y)) (b .args .budget) 0 (sym z) (omega arith);
       answers = λ e. b .pre .6 ∙ answers-skipped (b .args .words .now) (b .pre .0) (b .args .measure) (b .args .p) (b .args .q) (b .args .features .now) (b .pre .2) (b .args .y) (λ i h e. absurd (nobody (b .args .words .now) (b .pre .0) (b .args .measure) (b .args .p) (b .args .q) (b .args .features .now) (b .pre .2) (b .args .y) (present-none (b .args .words .now) (b .args .y) (sym (b .pre .5) ∙ c .if1 .taken)) i h e));
     }
 
@@ -48,8 +47,7 @@ returns-2 c =
     let b = c .before .before .before .before .before .before .before in
     let z = touches-unsearched (b .args .words .now) (b .pre .0) (b .args .measure) (b .args .p) (b .args .q) (b .args .features .now) (b .pre .2) (b .args .y) (sym (c .before .searched .ensures) ∙ not-true _ (c .if2 .taken)) in
     record {
-      over = sym (le-ltb (b .args .budget) (touchesOfSize (b .args .words .now) (b .args .measure) (b .args .p) (b .args .q) (b .args .features .now) (b .args .y)) (omega arith));
-      cost = λ e. sym z;
+      spent = spend-within (touchesOfSize (b .args .words .now) (b .args .measure) (b .args .p) (b .args .q) (b .args .features .now) (b .args .y)) (b .args .budget) 0 (sym z) (omega arith);
       answers = λ e. b .pre .6 ∙ answers-skipped (b .args .words .now) (b .pre .0) (b .args .measure) (b .args .p) (b .args .q) (b .args .features .now) (b .pre .2) (b .args .y) (unsearched (b .args .words .now) (b .pre .0) (b .args .measure) (b .args .p) (b .args .q) (b .args .features .now) (b .pre .2) (b .args .y) (sym (c .before .searched .ensures) ∙ not-true _ (c .if2 .taken)));
     }
 
@@ -102,11 +100,10 @@ returns-3 c =
     ap (touchesAt (b .args .words .now) (b .args .y) (listsFor (b .args .words .now) (b .args .y) f)) e ∙ sym (touches-searched (b .args .words .now) (b .pre .0) (b .args .measure) (b .args .p) (b .args .q) (b .args .features .now) (b .pre .2) (b .args .y) s)
     in
     record {
-      over = v .over ∙ ap (ltb (b .args .budget)) t;
-      cost = λ z. v .cost z ∙ t;
+      spent = rw t at (v .spent);
       answers = λ z.
           v .answers z
-          ∙ ap₂ (λ (l : ℕ) (k : List ℕ). kept (remainTable (nameWords (b .args .words .now)) (listsFor (b .args .words .now) (b .args .y) f) l (laterCount (listsFor (b .args .words .now) (b .args .y) f) l)) k) e (b .pre .6)
+          ∙ ap₂ (λ (l : ℕ) (k : List ℕ). kept (remainTable (idsOf (b .args .words .now)) (listsFor (b .args .words .now) (b .args .y) f) l (laterCount (listsFor (b .args .words .now) (b .args .y) f) l)) k) e (b .pre .6)
           ∙ answers-searched (b .args .words .now) (b .pre .0) (b .args .measure) (b .args .p) (b .args .q) (b .args .features .now) (b .pre .2) (b .args .y) s low (omega arith);
     }
 

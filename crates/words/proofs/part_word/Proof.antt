@@ -15,7 +15,7 @@ mul-result-2 : tie.Need-mul-result-2
 mul-result-2 c = let h = part-within (c .args .rows .now) (c .args .r) (c .args .k) (c .pre .0) (c .pre .1) in omega arith
 
 shared-slice-read-result : tie.Need-shared-slice-read-result
-shared-slice-read-result c = let s = c .before in part-within (s .args .rows .now) (s .args .r) (s .args .k) (s .pre .0) (s .pre .1)
+shared-slice-read-result c = let s = c .before in let h = part-within (s .args .rows .now) (s .args .r) (s .args .k) (s .pre .0) (s .pre .1) in omega arith
 
 returns : tie.Need-returns
 returns c = search needs

@@ -1,0 +1,95 @@
+-- `name_ids` meets its contract: after i names, their ids stand in front.
+use mathlib.Core.Path.{_≡_, ap, ap₂, _∙_}
+use mathlib.Core.List.{List}
+use Prim.Native.Nat.{ℕ, _+_, _≤_, _<_, _-_}
+use native.Mathlib.Omega.{arith}
+use lib.ListN.{length, set, replicate, length-replicate}
+use Rattle.laws.proofs.Tables.{tableOver, over-nil, over-step, length-over}
+use Rattle.words.specs.Words.{nameCount, nameId}
+use Rattle.index.specs.Good.{mostNames}
+use Rattle.index.proofs.Laws.{good-three, good-within, good-names-most}
+use Rattle.search.specs.Tables.{idsOf}
+use Rattle.search.proofs.name_ids.Statement.{statement}
+use Rattle.search.proofs.name_ids.Tie as tie
+
+abbrev Inv-loop : tie.InvT-loop
+Inv-loop words n table₀ i₀ table i = (n ≡ nameCount words) × (i ≤ n) × (table ≡ tableOver (nameId words) i (replicate mostNames 0))
+
+abbrev μ-loop : tie.MeasureT-loop
+μ-loop words n table₀ i₀ table i = n - i
+
+-- there is room for the id
+room : (c : tie.In-loop Inv-loop μ-loop) → c .before .loop .i < mostNames
+room c =
+    let b = c .before .before .before .before in
+    let h = good-names-most (b .args .words .now) (b .pre) in
+    let e = c .before .loop .inv .0 in
+    let t = c .loop-test .taken in
+    omega arith
+
+name-count-requires : tie.Need-name-count-requires Inv-loop μ-loop
+name-count-requires c κs = good-three _ (c .before .pre)
+
+loop-holds : tie.Need-loop-holds Inv-loop μ-loop
+loop-holds c = (c .name-count .ensures .0, omega arith, over-nil (nameId (c .before .before .args .words .now)) (replicate mostNames 0))
+
+name-id-requires : tie.Need-name-id-requires Inv-loop μ-loop
+name-id-requires c κs =
+    let b = c .before .before .before .before in
+    let w = good-within (b .args .words .now) (b .pre) in
+    let e = c .before .loop .inv .0 in
+    omega arith
+
+mul-table : tie.Need-mul-table Inv-loop μ-loop
+mul-table c = let h = room (c .before) in omega arith
+
+array-write-table : tie.Need-array-write-table Inv-loop μ-loop
+array-write-table c =
+    let b = c .before .before .before .before .before in
+    let l = c .before .before .loop in
+    let h = room (c .before) in
+    let n = length-replicate {A = ℕ} mostNames 0 in
+    let e = ap length (l .inv .2) ∙ length-over (nameId (b .args .words .now)) (l .i) (replicate mostNames 0) (let z : l .i ≤ length {A = ℕ} (replicate mostNames 0) = omega arith in z) in
+    omega arith
+
+add-i : tie.Need-add-i Inv-loop μ-loop
+add-i c = let h = room (c .before) in omega arith
+
+loop-less : tie.Need-loop-less Inv-loop μ-loop
+loop-less c = omega arith
+
+loop-again : tie.Need-loop-again Inv-loop μ-loop
+loop-again c =
+    let b = c .before .before .before .before .before in
+    let l = c .before .before .loop in
+    let h = room (c .before) in
+    let n = length-replicate {A = ℕ} mostNames 0 in (
+      l .inv .0,
+      omega arith,
+      ap₂ (λ (t : List ℕ) (x : ℕ). set t (l .i) x) (l .inv .2) (c .name-id .ensures)
+          ∙ over-step (nameId (b .args .words .now)) (l .i) (replicate mostNames 0) (let z : l .i < length {A = ℕ} (replicate mostNames 0) = omega arith in z),
+    )
+
+returns : tie.Need-returns Inv-loop μ-loop
+unfolding idsOf
+returns c =
+    let l = c .before .loop in
+    let w = c .before .before .before .before .args .words .now in
+    let e : l .i ≡ nameCount w = (let q = l .inv .0 in let t = c .loop-test .left in omega arith) in
+    l .inv .2 ∙ ap (λ (k : ℕ). tableOver (nameId w) k (replicate mostNames 0)) e
+
+pub name-ids-spec : {M : Type 1} → statement M
+name-ids-spec =
+    tie.close
+    (tie.spec
+    Inv-loop
+    μ-loop
+    name-count-requires
+    loop-holds
+    name-id-requires
+    mul-table
+    array-write-table
+    add-i
+    loop-less
+    loop-again
+    returns)
