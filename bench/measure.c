@@ -473,8 +473,8 @@ static void measure(struct scene *s, unsigned rounds)
 
 static void head(void)
 {
-    puts("| register and queries | touches | search_good, us | / SimString | / twin | search, us | / twin's check and search |"
-         " check / twin's | build, us | / sort | / twin's |");
+    puts("| register and queries | touches | search_good, µs | / SimString | / twin | search, µs | / twin's check and search |"
+         " check / twin's | build, µs | / sort | / twin's |");
     puts("|---|---|---|---|---|---|---|---|---|---|---|");
 }
 

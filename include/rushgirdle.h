@@ -76,7 +76,7 @@ typedef struct {
     uint32_t line;   /* the bad line, counted from 1; 0 after 0 and after 8 */
 } rushgirdle_build_answer;
 
-/* Builds the index of a register: the bytes of 4E lines, in order. Where it answers 0, the words are the index, and behind it 4294967295 to the
+/* Builds the index of a register: the bytes of 4E lines, in order. Where it answers 0, the words are the index, and after it 4294967295 to the
  * end; otherwise every word is 4294967295, which no search takes for an index. Its cost grows with the length of the register. */
 rushgirdle_build_answer rushgirdle_build(
     const uint8_t *register_bytes, size_t register_length,
@@ -134,7 +134,7 @@ rushgirdle_search_answer rushgirdle_search_rows(
  *
  * A line has to be exactly one frame of its kind: upper-case hexadecimal pairs and one line feed, which is part of the line. Otherwise 11; then
  * 8 where the name does not fit its buffer. A refused read has 0 in every field and leaves the buffer as it was; otherwise the name stands at
- * the buffer's start, and the bytes behind it keep their contents. Fields are not judged: every value that fits its bytes is taken. */
+ * the buffer's start, and the bytes after it keep their contents. Fields are not judged: every value that fits its bytes is taken. */
 
 typedef struct {
     uint8_t number;
@@ -193,7 +193,7 @@ rushgirdle_refusal_answer rushgirdle_read_refusal(const uint8_t *line, size_t li
 
 /* ---- frames: writing
  *
- * Writes the line, its line feed included, at the start of out; the bytes behind it keep their contents. The fields are written as given. 2
+ * Writes the line, its line feed included, at the start of out; the bytes after it keep their contents. The fields are written as given. 2
  * where a name or query is longer than 255 bytes, then 8 where the line does not fit; a refused write leaves out as it was. */
 
 typedef struct {

@@ -1,4 +1,4 @@
-/* Every function of include/rushgirdle.h, at the edges: each number from 0 to 11, every field, every lent element before, in and behind what is
+/* Every function of include/rushgirdle.h, at the edges: each number from 0 to 11, every field, every lent element before, in and after what is
  * written, and NULL with length 0; then once more with every slice just before memory that cannot be touched. What is expected was worked out by
  * hand from docs/RULE.md. Prints what fails, and at the end 'N passed, M failed'. */
 #define _DEFAULT_SOURCE
@@ -257,7 +257,7 @@ static void test_search(void)
     EXPECT(search("LANE", RUSHGIRDLE_OVERLAP, 2, 3, 100, 8, 8, 8).rows == 3);
     EXPECT(search("LANE", RUSHGIRDLE_OVERLAP, 667, 1000, 100, 8, 8, 8).rows == 1);
 
-    /* the refusals in their order, each before those behind it */
+    /* the refusals in their order, each before those after it */
     a = search("", 0, 0, 0, 0, 0, 0, 0);
     EXPECT(refused(a, 1, 0));
     a = search("AAAAAAAAAAAAAAAAAAAAAAAAAAAAAAAAAAAAAAAAAAAAAAAAAAAAAAAAAAAAAAAAA", 0, 0, 0, 0, 8, 8, 8);
@@ -320,7 +320,7 @@ static int rows_refused(rushgirdle_search_answer a, unsigned number, uint32_t to
 
 static void test_rows(void)
 {
-    /* a record is three words, one behind the other */
+    /* a record is three words, one after the other */
     EXPECT(sizeof(rushgirdle_row) == 12 && sizeof rows == 96);
 
     /* the index of LANE, LANES and PLANE that test_search has built */
@@ -337,7 +337,7 @@ static void test_rows(void)
     a = search_rows("LANE", 1, 9, 13, 100, 8);
     EXPECT(a.number == 0 && a.rows == 1 && a.p == 9 && a.q == 13 && row_is(&rows[0], 10, 6, 6) && rows_kept(1));
 
-    /* the refusals in their order, each before those behind it */
+    /* the refusals in their order, each before those after it */
     EXPECT(rows_refused(search_rows("", 0, 0, 0, 0, 0), 1, 0));
     EXPECT(rows_refused(search_rows("AAAAAAAAAAAAAAAAAAAAAAAAAAAAAAAAAAAAAAAAAAAAAAAAAAAAAAAAAAAAAAAAA", 0, 0, 0, 0, 8), 2, 0));
     fill_rows();
@@ -437,7 +437,7 @@ static void test_read(void)
     EXPECT(x.number == 11 && x.refusal == 0 && x.touches == 0);
 }
 
-/* the answer is the line, and what is behind it is kept */
+/* the answer is the line, and what is after it is kept */
 static int wrote(rushgirdle_write_answer w, const char *line)
 {
     size_t n = strlen(line);

@@ -1,4 +1,4 @@
--- The output piece by piece: a buffer that holds the longest answer holds each line's answer whole, and these, one behind the other, are the output.
+-- The output piece by piece: a buffer that holds the longest answer holds each line's answer whole, and these, one after the other, are the output.
 -- Cited by the program. Assumes nothing.
 use mathlib.Core.Path.{_≡_, refl, sym, ap, ap₂, _∙_}
 use mathlib.Core.Bool.{Bool, true, false, cond}
@@ -50,7 +50,7 @@ module _ (w input : List ℕ) (at : ℕ) where
   unfolding respondedOf
   next-line room = refl
 
-  -- the first piece of what is left is the line's answer, and behind it stand the answers of the lines after it
+  -- the first piece of what is left is the line's answer, and after it stand the answers of the lines after it
   module _ (output : List ℕ) (sent : ℕ) (left : drop sent output ≡ answersText w (linesOf (drop at input))) where
     split : drop sent output ≡ lineText w input at ++ answersText w (linesOf (drop (at + lineLength (drop at input)) input))
     split = left ∙ text-first w input at
@@ -71,7 +71,7 @@ module _ (w input : List ℕ) (at : ℕ) where
         let c = length-drop sent output in
         omega arith
 
--- behind the last line all of the output is sent
+-- after the last line all of the output is sent
 pub pieces-end : (w input : List ℕ) (at : ℕ) (output : List ℕ) (sent : ℕ) → drop sent output ≡ answersText w (linesOf (drop at input))
     → length input ≤ at → sent ≤ length output → sent ≡ length output
 pieces-end w input at output sent left h k =

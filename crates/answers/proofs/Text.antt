@@ -97,7 +97,7 @@ length-found rows touches p q c =
     let d = length-end rows touches p q in
     omega arith
 
--- the end behind rows that fill the front
+-- the end after rows that fill the front
 pub put-end : (rows out part line : List ℕ) (n k : ℕ) → length rows ≡ n → k ≡ endLength → part ≡ line
     → putMid n k (rows ++ drop n out) part ≡ (rows ++ line) ++ drop (n + endLength) out
 put-end rows out part line n k l e p =

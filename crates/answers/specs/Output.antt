@@ -171,7 +171,7 @@ answerLines (Refused number touches) c = refusalLine number touches ∷ []
 abbrev pub programWords : ℕ
 programWords = 16384
 
--- the answers of all query lines, one behind the other
+-- the answers of all query lines, one after the other
 unfoldable pub answersText : List ℕ → List (List ℕ) → List ℕ
 answersText w [] = []
 answersText w (l ∷ ls) = answerOf w l ++ answersText w ls

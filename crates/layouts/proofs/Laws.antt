@@ -74,7 +74,7 @@ name-bytes-bytes false name b h k = omega arith
 
 -- ---- writing and then reading
 
--- behind k and b, which end at place n, the name's length byte says how many bytes are left
+-- after k and b, which end at place n, the name's length byte says how many bytes are left
 sized : (k n : ℕ) (b : List ℕ) (named : Bool) (name : List ℕ) → length b ≡ n
     → length (k ∷ (b ++ nameBytes named name)) ≡ (1 + n) + cond named (1 + getD (k ∷ (b ++ nameBytes named name)) (1 + n) 0) 0
 unfolding nameBytes
@@ -85,7 +85,7 @@ sized k n b true name e =
     rw (o, g) (omega arith)
 sized k n b false name e = let m = length-append b [] in omega arith
 
--- and the name stands behind it
+-- and the name stands after it
 behind : (k n : ℕ) (b : List ℕ) (named : Bool) (name : List ℕ) → length b ≡ n → (named ≡ false → name ≡ [])
     → cond named (drop (1 + n + 1) (k ∷ (b ++ nameBytes named name))) [] ≡ name
 unfolding nameBytes
@@ -147,7 +147,7 @@ module _ (y : Layout) (f name : List ℕ) (h : Fitting y f name) where
 
 -- ---- reading and then writing
 
--- the bytes t behind k, of which n are fields, are the fields and the name with its length
+-- the bytes t after k, of which n are fields, are the fields and the name with its length
 name-parts : (k n : ℕ) (t : List ℕ) (named : Bool) → suc (length t) ≡ (1 + n) + cond named (1 + getD (k ∷ t) (1 + n) 0) 0
     → take n t ++ nameBytes named (cond named (drop (1 + n + 1) (k ∷ t)) []) ≡ t
 unfolding nameBytes

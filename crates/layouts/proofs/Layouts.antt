@@ -281,7 +281,7 @@ module _ (y : Layout) (l buffer : List ℕ) where
   unfolding bufferOf
   buffer-kept n = rw (ne-eqb _ _ n)
 
-  -- copying the bytes behind the length byte to the start of the buffer leaves just what it should
+  -- copying the bytes after the length byte to the start of the buffer leaves just what it should
   pub name-copied : readOf y l (length buffer) .number ≡ 0 → y .named ≡ true
       → sets buffer 0 (take (length (nameIn y l)) (drop (headSize y + 1) (bytesOf l))) ≡ bufferOf y l buffer
   name-copied z n =
@@ -307,7 +307,7 @@ module _ (y : Layout) (f name : List ℕ) where
       let t = length-name-bytes (y .named) name in
       rw length-append (omega arith)
 
-  -- the kind, the fields and the name, put one behind the other, and the line feed behind them, are the line
+  -- the kind, the fields and the name, put one after the other, and the line feed after them, are the line
   pub line-put : (out : List ℕ)
       → set
       (sets (sets (sets out 0 (hexOf (y .kind ∷ []))) 2 (hexOf (fieldBytes (y .widths) f))) (2 * headSize y) (hexOf (nameBytes (y .named) name)))

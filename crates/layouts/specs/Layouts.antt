@@ -30,7 +30,7 @@ unfoldable pub fieldBytes : List ℕ → List ℕ → List ℕ
 fieldBytes [] f = []
 fieldBytes (w ∷ ws) f = bytesFor w (getD f 0 0) ++ fieldBytes ws (drop 1 f)
 
--- the name behind its length; nothing in a layout without a name
+-- the name after its length; nothing in a layout without a name
 unfoldable pub nameBytes : Bool → List ℕ → List ℕ
 nameBytes true name = length name ∷ name
 nameBytes false name = []
@@ -72,16 +72,16 @@ laidOut y s = eqb (getD s 0 0) (y .kind) && eqb (length s) (headSize y + nameSiz
 unfoldable pub isFrame : Layout → List ℕ → Bool
 isFrame y line = wellFormed line && laidOut y (bytesOf line)
 
--- the fields that stand at the widths, one behind the other
+-- the fields that stand at the widths, one after the other
 unfoldable pub fieldsOf : List ℕ → List ℕ → List ℕ
 fieldsOf [] s = []
 fieldsOf (w ∷ ws) s = numberOf (take w s) ∷ fieldsOf ws (drop w s)
 
--- the fields in a line, from behind the kind
+-- the fields in a line, from after the kind
 unfoldable pub fieldsIn : Layout → List ℕ → List ℕ
 fieldsIn y line = fieldsOf (y .widths) (drop 1 (bytesOf line))
 
--- the name in a line, from behind its length byte; none in a layout without a name
+-- the name in a line, from after its length byte; none in a layout without a name
 unfoldable pub nameIn : Layout → List ℕ → List ℕ
 nameIn y line = cond (y .named) (drop (headSize y + 1) (bytesOf line)) []
 

@@ -159,7 +159,7 @@ fn put_fields(out: &mut [u8], layout: Layout, fields: [u32; Layout::FIELDS])
     }
 }
 
-// Writes the name behind its length from index `at` on, where the layout has a name.
+// Writes the name after its length from index `at` on, where the layout has a name.
 fn put_name(out: &mut [u8], at: usize, named: bool, name: &[u8])
     requires { ⌜ (length (now name) ≤ longestName) × (at + 2 * length (nameBytes named (now name)) ≤ length (now out)) ⌝ }
     ensures { λ _. ⌜ now (out .exit) ≡ sets (now (out .entry)) at (hexOf (nameBytes named (now (name .entry)))) ⌝ }

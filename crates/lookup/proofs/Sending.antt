@@ -1,4 +1,4 @@
--- What is sent between two lines: each answer is the next piece of the output, and behind the last one all of it is sent.
+-- What is sent between two lines: each answer is the next piece of the output, and after the last one all of it is sent.
 -- Assumes nothing.
 use mathlib.Core.Path.{_≡_, refl, sym, ap, subst, _∙_}
 use mathlib.Core.List.{List, []}

@@ -6,7 +6,7 @@ use Prim.Native.Nat.{ℕ, _+_, _≤_, _<_}
 use lib.ListN.{length, take, drop, replicate}
 use Rattle.answers.specs.Output.{programWords, openedOf, openWords, outputOf}
 
--- the first `len` bytes of a buffer are the next piece of the output, behind the `sent` bytes that were handed over before it, and were answered: number 0
+-- the first `len` bytes of a buffer are the next piece of the output, after the `sent` bytes that were handed over before it, and were answered: number 0
 pub record Next (input : List ℕ) (sent number len : ℕ) (out : List ℕ) : Type 0 where
   pub answered : number ≡ 0
   pub within : len ≤ length out

@@ -98,7 +98,7 @@ fn write_text(text: &[u8]) -> usize
     done
 }
 
-// Hands over the next piece of the output: the first `len` bytes of the buffer, behind the `sent` bytes before them.
+// Hands over the next piece of the output: the first `len` bytes of the buffer, after the `sent` bytes before them.
 fn hand_over(input: &[u8], sent: usize, number: u8, len: usize, out: &[u8]) -> Sent
     requires { ⌜ Next (now input) sent number len (now out) ⌝ }
     ensures { λ r. ⌜ (r .whole ≡ true → r .bytes ≡ sent + len) ⌝ }

@@ -27,7 +27,7 @@ getD-zeros zero j = refl
 getD-zeros (suc m) zero = refl
 getD-zeros (suc m) (suc j) = getD-zeros m j
 
--- zeros behind a list change no character, since past the end a character is 0
+-- zeros after a list change no character, since past the end a character is 0
 getD-behind : (s : List ℕ) (m j : ℕ) → getD (s ++ replicate m 0) j 0 ≡ getD s j 0
 getD-behind s m j =
     ⊎-elim

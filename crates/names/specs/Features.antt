@@ -46,7 +46,7 @@ numberAt f i = timesIn f (f i) i + 1
 abbrev pub numbers : ℕ
 numbers = 256
 
--- the i-th of f with its number behind it
+-- the i-th of f with its number after it
 unfoldable pub numbered : (ℕ → ℕ) → ℕ → ℕ
 numbered f i = f i * numbers + numberAt f i
 

@@ -1,4 +1,4 @@
--- Laws of a lent list of rows after a search: its length, its given rows, what stood behind them, and that their fields are the columns of `search`.
+-- Laws of a lent list of rows after a search: its length, its given rows, what stood after them, and that their fields are the columns of `search`.
 -- For callers of `search_rows`. Assumes nothing.
 use mathlib.Core.Path.{_≡_, refl, sym, ap, _∙_}
 use mathlib.Core.List.{List, [], _∷_, _++_, map, map-append}
@@ -25,7 +25,7 @@ length-over-rows given l h =
 pub row-given : (given l : List Row) (k : ℕ) (d : Row) → k < length given → getD (overRows given l) k d ≡ getD given k d
 row-given given l k d h = List·getD-append given (drop (length given) l) d k h
 
--- a row behind the given ones keeps its contents
+-- a row after the given ones keeps its contents
 pub row-kept : (given l : List Row) (k : ℕ) (d : Row) → length given ≤ k → getD (overRows given l) k d ≡ getD l k d
 row-kept given l k d h =
     let e : length given + (k - length given) ≡ k = omega arith in

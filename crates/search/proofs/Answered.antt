@@ -58,7 +58,7 @@ searched-refused s m p q allowance w c number touches e =
 
 -- ---- the order of refusals
 
--- the cases of a question behind those of its query
+-- the cases of a question after those of its query
 behind : ℕ → ℕ → ℕ → List Case
 behind m p q = case 4 (not (goodMeasure m)) ∷ case 5 (not (goodThreshold p q)) ∷ []
 
@@ -75,7 +75,7 @@ module _ (s : List ℕ) (m p q : ℕ) where
   unfolding questionOf judgeOf behind
   question-name n = first-front (nameCases s) (behind m p q) n
 
-  -- where the query is good, the cases behind it decide
+  -- where the query is good, the cases after it decide
   good-query : judgeOf s ≡ 0 → questionOf s m p q ≡ firstCase (behind m p q)
   unfolding questionOf judgeOf behind
   good-query n = first-behind (nameCases s) (behind m p q) (names-numbered s) n

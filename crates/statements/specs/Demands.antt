@@ -335,7 +335,7 @@ Accepted register words = builtOf register (length words) .number ≡ 0
 abbrev pub ofBuilt : {A : Type 0} → List ℕ → List ℕ → Question A → Question A
 ofBuilt register words a = withWords (wordsAfter register words) a
 
--- line i of the register, from 0, is judged behind the lines before it: 11, 1, 2, 3, 9, 10 in that order, or 0
+-- line i of the register, from 0, is judged after the lines before it: 11, 1, 2, 3, 9, 10 in that order, or 0
 pub record Building (register words : List ℕ) : Type 0 where
   -- the first bad line decides: its number, and its place counted from 1
   pub bad-line : (i : ℕ) → i < length (linesOf register) → ((j : ℕ) → j < i → judgeNth register j ≡ 0) → (judgeNth register i ≡ 0 → ⊥)
@@ -399,7 +399,7 @@ pub record Frames : Type 0 where
       → Bytes query → length query ≤ longestName → length query ≤ room
       → readOf queryFrame (lineOf queryFrame (measure ∷ p ∷ q ∷ allowance ∷ []) query) room
       ≡ queryOut (record { number = 0; measure = measure; p = p; q = q; allowance = allowance; len = length query })
-  -- and the lent buffer starts with the name or the query; what stood behind that is kept
+  -- and the lent buffer starts with the name or the query; what stood after that is kept
   pub name-buffer : (id : ℕ) (name buffer : List ℕ) → id < 65536 → Bytes name → length name ≤ longestName → length name ≤ length buffer
       → bufferOf nameFrame (lineOf nameFrame (id ∷ []) name) buffer ≡ name ++ drop (length name) buffer
   pub query-buffer : (measure p q allowance : ℕ) (query buffer : List ℕ) → measure < 256 → p < 65536 → q < 65536 → allowance < 4294967296

@@ -53,7 +53,7 @@ fn lower_case(random: &mut Random, line: &[u8]) -> Vec<u8> {
     replaced(line, at, at + 1, &[line[at].to_ascii_lowercase()])
 }
 
-/// A byte more after the last, or right behind the kind.
+/// A byte more after the last, or right after the kind.
 fn byte_too_many(random: &mut Random, line: &[u8]) -> Vec<u8> {
     let byte = line_of(&[random.below(256) as u8]);
     let at = random.pick(&[2, line.len() - 1, line.len() - 1]);

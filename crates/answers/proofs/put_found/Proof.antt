@@ -1,4 +1,4 @@
--- `put_found` meets its contract: the rows fill the front, and their end stands behind them.
+-- `put_found` meets its contract: the rows fill the front, and their end stands after them.
 use mathlib.Core.Path.{_≡_, sym, ap, _∙_}
 use mathlib.Core.List.{List, _++_}
 use Prim.Native.Nat.{ℕ, _+_, _-_, _*_, _≤_, _<_}

@@ -1,4 +1,4 @@
--- `fields` meets its contract: after k turns the first k fields stand at the start of the array, and `at` is behind their bytes.
+-- `fields` meets its contract: after k turns the first k fields stand at the start of the array, and `at` is after their bytes.
 -- Assumes nothing.
 use mathlib.Core.Path.{_≡_, refl, _∙_}
 use mathlib.Core.List.{List}

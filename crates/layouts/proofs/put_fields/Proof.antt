@@ -1,4 +1,4 @@
--- `put_fields` meets its contract: after k turns the digits of the first k fields stand from index 2 on, and `at` is behind them.
+-- `put_fields` meets its contract: after k turns the digits of the first k fields stand from index 2 on, and `at` is after them.
 -- Assumes nothing.
 use mathlib.Core.Path.{_≡_, refl, _∙_}
 use Prim.Native.Nat.{_+_, _*_, _-_, _≤_, _<_}

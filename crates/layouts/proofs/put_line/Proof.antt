@@ -1,4 +1,4 @@
--- `put_line` meets its contract: kind, fields and name are put one behind the other, and the line feed behind them.
+-- `put_line` meets its contract: kind, fields and name are put one after the other, and the line feed after them.
 -- Assumes nothing.
 use mathlib.Core.Path.{_≡_, _∙_}
 use mathlib.Core.Bool.{cond}

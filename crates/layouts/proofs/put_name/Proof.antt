@@ -1,4 +1,4 @@
--- `put_name` meets its contract: nothing for a layout without a name, and otherwise the length and behind it the name.
+-- `put_name` meets its contract: nothing for a layout without a name, and otherwise the length and after it the name.
 -- Assumes nothing.
 use mathlib.Core.Path.{_≡_, _∙_}
 use mathlib.Core.Bool.{true, false}

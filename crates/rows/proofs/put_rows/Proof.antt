@@ -229,7 +229,7 @@ module _ {M : Type 1} (𝓤 : URA M) (H : Heap 𝓤) (A : Atoms 𝓤) (W : Given
         ∷ ‵ (froom Word l₈ 0) ∷ ‵ (froom tyPtr l₉ 0) ∷ ‵ (froom Num l₁₀ 0) ∷ ‵ (froom Word l₁₁ 0) ∷ ‵ (froom tyPtr l₁₂ 0) ∷ ‵ (froom Num l₁₃ 0) ∷ ‵ (froom Word l₁₄ 0) ∷ ‵ (froom tyPtr l₁₅ 0) ∷ ‵ (froom Num l₁₆ 0)
         ∷ ‵ (froom Record l₁₇ 0) ∷ ‵ (froom Word l₁₈ 0) ∷ ‵ (froom tyPtr l₁₉ 0) ∷ Rest
 
-    -- behind the loop the rest of the body runs
+    -- after the loop the rest of the body runs
     abbrev Behind : Out → SProp 𝓤
     Behind = afterBlock 𝓤 H (afterSeq 𝓤 H (Wp 𝓤 H C Λ locals body.t-3 (atReturn 𝓤 H locals Post)) (atReturn 𝓤 H locals Post))
 
@@ -368,7 +368,7 @@ module _ {M : Type 1} (𝓤 : URA M) (H : Heap 𝓤) (A : Atoms 𝓤) (W : Given
       enter ! (𝓣 .C) (𝓣 .Λ) code.function (v₁ ∷ v₂ ∷ v₃ ∷ vint w64 n ∷ v₅ ∷ []) _ $
       alloc1 ! (λ l₀. alloc1 ! (λ l₁. alloc1 ! (λ l₂. alloc1 ! (λ l₃. alloc1 ! (λ l₄. alloc1 ! (λ l₅. alloc1 ! (λ l₆. alloc1 ! (λ l₇. alloc1 ! (λ l₈. alloc1 ! (λ l₉.
       alloc1 ! (λ l₁₀. alloc1 ! (λ l₁₁. alloc1 ! (λ l₁₂. alloc1 ! (λ l₁₃. alloc1 ! (λ l₁₄. alloc1 ! (λ l₁₅. alloc1 ! (λ l₁₆. alloc1 ! (λ l₁₇. alloc1 ! (λ l₁₈. alloc1 ! (λ l₁₉. alloc0 ! $ params1 ! $
-      -- local i stands at 38 − 2i, and that it dies behind it; then the tokens and what the parameters own
+      -- local i stands at 38 − 2i, and that it dies after it; then the tokens and what the parameters own
       pass1 ! (init ! 36 refl (tt, (tt, (record { fits = room₁ .0 }, tt)))) $ pass1 ! (init ! 34 refl (tt, (tt, (record { fits = room₂ .0 }, tt)))) $ pass1 ! (init ! 32 refl (tt, (tt, (record { fits = room₃ .0 }, tt)))) $
       pass1 ! (init ! 30 refl (tt, record { fits = fits })) $ pass1 ! (init ! 28 refl (tt, (tt, (record { fits = room₄ .0 }, tt)))) $ pass0 ! $
       assigns ! (of-opd ! (lit ! tt)) (from ! (stop !)) (init ! 26 refl (tt, record { fits = lit< tt })) $

@@ -306,7 +306,7 @@ module _ {M : Type 1} (𝓤 : URA M) (H : Heap 𝓤) (A : Atoms 𝓤) (W : Given
         alloc1 ! (λ l₀. alloc1 ! (λ l₁. alloc1 ! (λ l₂. alloc1 ! (λ l₃. alloc1 ! (λ l₄. alloc1 ! (λ l₅. alloc1 ! (λ l₆. alloc1 ! (λ l₇. alloc1 ! (λ l₈. alloc1 ! (λ l₉.
         alloc1 ! (λ l₁₀. alloc1 ! (λ l₁₁. alloc1 ! (λ l₁₂. alloc1 ! (λ l₁₃. alloc1 ! (λ l₁₄. alloc1 ! (λ l₁₅. alloc1 ! (λ l₁₆. alloc1 ! (λ l₁₇. alloc1 ! (λ l₁₈. alloc1 ! (λ l₁₉.
         alloc1 ! (λ l₂₀. alloc1 ! (λ l₂₁. alloc1 ! (λ l₂₂. alloc1 ! (λ l₂₃. alloc1 ! (λ l₂₄. alloc1 ! (λ l₂₅. alloc1 ! (λ l₂₆. alloc1 ! (λ l₂₇. alloc0 ! $ params1 ! $
-        -- local i stands at 54 − 2i, and that it dies behind it; then the tokens and what the parameters own
+        -- local i stands at 54 − 2i, and that it dies after it; then the tokens and what the parameters own
         pass1 ! (init ! 52 refl (tt, (tt, (record { fits = room₁ .0 }, tt)))) $ pass1 ! (init ! 50 refl (tt, record { fits = f₂ })) $ pass1 ! (init ! 48 refl (tt, record { fits = f₃ })) $ pass1 ! (init ! 46 refl (tt, record { fits = f₄ })) $ pass1 ! (init ! 44 refl (tt, record { fits = f₅ })) $ pass1 ! (init ! 42 refl (tt, (tt, (record { fits = room₆ .0 }, tt)))) $ pass1 ! (init ! 40 refl (tt, (tt, (record { fits = room₇ .0 }, tt)))) $ pass0 ! $
         -- the columns, begun as zeros
         assigns ! (rep ! mostNames (lit ! tt)) (from ! (stop !)) (init ! 38 refl zero-column) $

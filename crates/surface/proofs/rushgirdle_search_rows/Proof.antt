@@ -179,7 +179,7 @@ module _ {M : Type 1} (𝓤 : URA M) (H : Heap 𝓤) (A : Atoms 𝓤) (W : Given
         qed W (tokens ∷ ‵ (owns (ShrSlice (named 0) κ₁ u8 ∷ u8 ∷ u16 ∷ u16 ∷ u32 ∷ ShrSlice (named 1) κ₂ u32 ∷ MutSlice (named 2) κ₃ row-type.the-row ∷ []) params values) ∷ []) ∵
         enter ! C Λ code.function passed _ $
         alloc1 ! (λ l₀. alloc1 ! (λ l₁. alloc1 ! (λ l₂. alloc1 ! (λ l₃. alloc1 ! (λ l₄. alloc1 ! (λ l₅. alloc1 ! (λ l₆. alloc1 ! (λ l₇. alloc1 ! (λ l₈. alloc1 ! (λ l₉. alloc1 ! (λ l₁₀. alloc0 ! $ params1 ! $
-        -- local i stands at 20 − 2i, and that it dies behind it; then the tokens and what the parameters own
+        -- local i stands at 20 − 2i, and that it dies after it; then the tokens and what the parameters own
         pass1 ! (init ! 18 refl (tt, (tt, (record { fits = room₁ .0 }, tt)))) $ pass1 ! (init ! 16 refl (tt, record { fits = f₂ })) $ pass1 ! (init ! 14 refl (tt, record { fits = f₃ })) $ pass1 ! (init ! 12 refl (tt, record { fits = f₄ })) $ pass1 ! (init ! 10 refl (tt, record { fits = f₅ })) $ pass1 ! (init ! 8 refl (tt, (tt, (record { fits = room₆ .0 }, tt)))) $ pass1 ! (init ! 6 refl (tt, (tt, (record { fits = room₇ .0 }, tt)))) $ pass0 ! $
         -- the lent rows, as they are passed on
         assigns ! (addr ! (from ! (fld ! refl (hop ! (look-in ! 6 (sub ! 0 refl (whole !))) (stop !))))) (from ! (stop !)) (init ! 2 refl (tt, tt)) $
