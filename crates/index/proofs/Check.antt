@@ -15,7 +15,7 @@ use Rattle.laws.proofs.Below.{and-both, and-left, and-right, and-false-left, al
 use Rattle.laws.proofs.Found.{all-more, pairs-more}
 use Rattle.laws.proofs.Tests.{test-fails}
 use Rattle.names.specs.Features.{mostFeatures}
-use Rattle.words.specs.Words.{nameCount, rowCount, postingCount, nameId, nameSize, rowPlace, rowLength, postingsStart, rowKey}
+use Rattle.words.specs.Words.{headWidth, nameCount, rowCount, postingCount, nameId, nameSize, rowPlace, rowLength, postingsStart, rowKey}
 use Rattle.index.specs.Good.{mostNames, mostPostings, largestId, leastSize, headGood, nameGood, namesGood, rowBefore, placeDue, rowGood, rowsGood}
 use Rattle.index.proofs.Facts.{head-facts, names-facts, rows-facts}
 use Rattle.index.proofs.Keys.{key-before}
@@ -23,7 +23,7 @@ use Rattle.index.proofs.Keys.{key-before}
 -- ---- the head
 
 module _ (w : List ℕ) where
-  pub head-short : length w < 3 → headGood w ≡ false
+  pub head-short : length w < headWidth → headGood w ≡ false
   head-short l = test-fails (headGood w) (λ e. let h = head-facts w e .three in omega arith)
 
   pub head-many : mostNames < nameCount w → headGood w ≡ false
@@ -33,11 +33,11 @@ module _ (w : List ℕ) where
   head-long l = test-fails (headGood w) (λ e. let h = head-facts w e .postings in omega arith)
 
   -- the last of the head's tests, by the numbers that the code reads
-  pub head-last : (s p : ℕ) → 3 ≤ length w → nameCount w ≤ mostNames → p ≤ mostPostings → s ≡ postingsStart w → p ≡ postingCount w
+  pub head-last : (s p : ℕ) → headWidth ≤ length w → nameCount w ≤ mostNames → p ≤ mostPostings → s ≡ postingsStart w → p ≡ postingCount w
       → leb (s + p) (length w) ≡ headGood w
   unfolding headGood
   head-last s p l hn hp es ep =
-      let a : leb 3 (length w) ≡ true = le-leb 3 (length w) l in
+      let a : leb headWidth (length w) ≡ true = le-leb headWidth (length w) l in
       let b : leb (nameCount w) mostNames ≡ true = le-leb (nameCount w) mostNames hn in
       let c : leb (postingCount w) mostPostings ≡ true = le-leb (postingCount w) mostPostings (omega arith) in
       rw (a, b, c, es, ep)

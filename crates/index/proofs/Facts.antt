@@ -16,13 +16,13 @@ use Rattle.laws.specs.Below.{allBelow, sumBelow}
 use Rattle.laws.proofs.Below.{and-left, and-right, all-at, sum-below-up, sum-below-step}
 use Rattle.laws.proofs.Ascending.{chain}
 use Rattle.names.specs.Features.{mostFeatures}
-use Rattle.words.specs.Words.{nameCount, rowCount, postingCount, nameId, nameSize, rowSize, rowFeature, rowPlace, rowLength, posting, listAt, total}
+use Rattle.words.specs.Words.{headWidth, nameCount, rowCount, postingCount, nameId, nameSize, rowSize, rowFeature, rowPlace, rowLength, posting, listAt, total}
 use Rattle.index.specs.Good.{mostNames, mostPostings, largestId, leastSize, headGood, nameGood, namesGood, rowBefore, placeDue, rowGood, rowsGood, isName, listGood, listsWith, listsGood, goodOf, Good}
 
 -- ---- the head
 
 pub record Head (w : List ℕ) : Type 0 where
-  pub three : 3 ≤ length w
+  pub three : headWidth ≤ length w
   pub names : nameCount w ≤ mostNames
   pub postings : postingCount w ≤ mostPostings
   pub within : total w ≤ length w
@@ -30,14 +30,14 @@ pub record Head (w : List ℕ) : Type 0 where
 pub head-facts : (w : List ℕ) → headGood w ≡ true → Head w
 unfolding headGood
 head-facts w g =
-    let a = leb 3 (length w) in
+    let a = leb headWidth (length w) in
     let b = leb (nameCount w) mostNames in
     let c = leb (postingCount w) mostPostings in
     let d = leb (total w) (length w) in
     let abc = and-left (a && b && c) d g in
     let ab = and-left (a && b) c abc in
     record {
-      three = leb-true 3 (length w) (and-left a b ab);
+      three = leb-true headWidth (length w) (and-left a b ab);
       names = leb-true (nameCount w) mostNames (and-right a b ab);
       postings = leb-true (postingCount w) mostPostings (and-right (a && b) c abc);
       within = leb-true (total w) (length w) (and-right (a && b && c) d g);

@@ -17,7 +17,7 @@ use Rattle.laws.proofs.Tests.{same-test, test-fails}
 use Rattle.laws.proofs.Ascending.{rises, rises-apart, ascending-next}
 use Rattle.laws.proofs.Members.{member-place}
 use Rattle.laws.proofs.Halving.{count-below-place}
-use Rattle.words.specs.Words.{nameCount, rowCount, postingCount, nameId, nameSize, rowSize, rowPlace, rowLength, posting, listAt, total}
+use Rattle.words.specs.Words.{headWidth, nameCount, rowCount, postingCount, nameId, nameSize, rowSize, rowPlace, rowLength, posting, listAt, total}
 use Rattle.index.specs.Good.{mostNames, mostPostings, isName, Good, headGood, namesGood, rowsGood, listsGood, goodOf}
 use Rattle.index.specs.Check.{namePlace, Checked}
 use Rattle.index.proofs.Total.{total-same, total-good}
@@ -32,7 +32,7 @@ good-names-most w g = good-facts w g .head .names
 pub good-postings-most : (w : List ℕ) → Good w → postingCount w ≤ mostPostings
 good-postings-most w g = good-facts w g .head .postings
 
-pub good-three : (w : List ℕ) → Good w → 3 ≤ length w
+pub good-three : (w : List ℕ) → Good w → headWidth ≤ length w
 good-three w g = good-facts w g .head .three
 
 pub good-within : (w : List ℕ) → Good w → total w ≤ length w
@@ -90,7 +90,7 @@ module _ (w : List ℕ) (g : Good w) where
 
 -- ---- what is not looked at, and what is never good
 
--- a good index is judged by its first 3 + N + 4D + P words
+-- a good index is judged by its words up to the total
 pub good-total : (w v : List ℕ) → take (total w) w ≡ take (total w) v → total w ≤ length v → Good w → Good v
 good-total w v same long g = total-good w v same long g
 

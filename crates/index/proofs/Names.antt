@@ -1,4 +1,4 @@
--- Where a name stands, found by a binary search of the name words, or by a guess. Cited by the proofs of `name_place`, `name_for`
+-- Where a name stands, found by a binary search of the names' words, or by a guess. Cited by the proofs of `name_place`, `name_for`
 -- and `name_near`.
 -- Assumes nothing.
 use mathlib.Core.Path.{_≡_, refl, sym, ap, subst, _∙_}
@@ -8,74 +8,64 @@ use mathlib.Core.List.{List}
 use Prim.Native.Nat.{ℕ, _+_, _*_, _/_, _≤_, _<_}
 use native.Mathlib.Nat.{eq-or-lt-of-le, zero-add}
 use native.Mathlib.Omega.{arith}
-use lib.ListN.{length, getD, take, drop, length-take, length-drop}
-use lib.Seq.{getD-take, getD-drop}
+use lib.ListN.{length}
 use lib.Dec.{ltb, eqb}
 use borrow.Author.Tests.{lt-ltb, ltb-true, ltb-false, eq-eqb, eqb-true}
-use Rattle.laws.specs.Lists.{Ascending, countOf}
 use Rattle.laws.specs.Below.{countBelow}
 use Rattle.laws.proofs.Below.{and-both, and-left, and-right, sum-below-ext}
-use Rattle.laws.proofs.Ascending.{rises, ascending-of}
+use Rattle.laws.proofs.Ascending.{rises}
 use Rattle.laws.proofs.Found.{first-is, first-none}
-use Rattle.laws.proofs.Halving.{Falling, Stretch, count-below-place, falling-count, count-index}
+use Rattle.laws.proofs.Halving.{Falling, Stretch, falling-count}
 use Rattle.laws.proofs.Order.{le-or-lt}
 use Rattle.laws.proofs.Tests.{same-test}
-use Rattle.words.specs.Words.{nameCount, namesStart, nameWord, nameId, nameSize}
-use Rattle.index.specs.Good.{largestId}
+use Rattle.halving.specs.Column.{columnAt, Rising}
+use Rattle.words.specs.Words.{nameCount, namesStart, nameStart, nameWidth, sizeRoom, nameWord, nameId, nameSize}
 use Rattle.index.specs.Check.{Named, namePlace, nameFor}
 use Rattle.index.proofs.Facts.{head-facts, names-facts}
-
--- the name words
-abbrev pub nameWords : List ℕ → List ℕ
-nameWords w = take (nameCount w) (drop namesStart w)
 
 module _ (w : List ℕ) (good : Named w) where
   ids-rise : (i j : ℕ) → i < j → j < nameCount w → nameId w i < nameId w j
   ids-rise = rises (nameCount w) (nameId w) (names-facts w (good .names) .next)
 
-  pub names-within : namesStart + nameCount w ≤ length w
+  pub names-within : nameStart (nameCount w) ≤ length w
   names-within = let h = head-facts w (good .head) .within in omega arith
 
-  words-length : length (nameWords w) ≡ nameCount w
-  words-length = let h = names-within in simp (length-take, length-drop) (omega arith)
+  -- ---- the column of the names' words
 
-  words-at : (i : ℕ) → i < nameCount w → getD (nameWords w) i 0 ≡ nameWord w i
-  unfolding nameWord
-  words-at i l = rw (getD-take, getD-drop)
+  word-at : (i : ℕ) → columnAt w namesStart nameWidth i ≡ nameWord w i
+  unfolding columnAt nameWord
+  word-at i = refl
 
-  pub words-ascend : Ascending (nameWords w)
-  unfolding nameId
-  words-ascend =
-      ascending-of (nameWords w)
-      (λ i j l m.
-      let n = words-length in
-      let a = words-at i (omega arith) in
-      let b = words-at j (omega arith) in
-      let h = ids-rise i j l (omega arith) in
-      omega arith)
+  -- it can be searched
+  pub names-searched : (n : ℕ) → n ≡ nameCount w
+      → (n ≤ length w) × ((i : ℕ) → i < n → namesStart + nameWidth * i < length w) × Rising (columnAt w namesStart nameWidth) n
+  unfolding Rising nameId
+  names-searched n e =
+      let h = head-facts w (good .head) .within in (
+        omega arith,
+        λ i l. omega arith,
+        λ i j l m.
+            let a = word-at i in
+            let b = word-at j in
+            ⊎-elim
+            (λ (p : i ≡ j). let c = ap (nameWord w) p in (let z : columnAt w namesStart nameWidth i ≤ columnAt w namesStart nameWidth j = omega arith in z))
+            (λ (p : i < j). let c = ids-rise i j p (omega arith) in (let z : columnAt w namesStart nameWidth i ≤ columnAt w namesStart nameWidth j = omega arith in z))
+            (eq-or-lt-of-le l),
+      )
 
-  -- an id's place among the names is its first word's place among the words
-  pub place-words : (id : ℕ) → countOf (λ (y : ℕ). ltb y (id * 256)) (nameWords w) ≡ namePlace w id
+  -- and the search finds an id's place among the names by the least word that a name of the id can have
+  pub place-words : (n id r : ℕ) → n ≡ nameCount w → r ≡ countBelow n (λ (i : ℕ). ltb (columnAt w namesStart nameWidth i) (sizeRoom * id)) → r ≡ namePlace w id
   unfolding namePlace nameId
-  place-words id =
-      count-index (λ (y : ℕ). ltb y (id * 256)) (nameWords w)
-      ∙ ap (λ (n : ℕ). countBelow n (λ (i : ℕ). ltb (getD (nameWords w) i 0) (id * 256))) words-length
+  place-words n id r e f =
+      f
+      ∙ ap (λ (k : ℕ). countBelow k (λ (i : ℕ). ltb (columnAt w namesStart nameWidth i) (sizeRoom * id))) e
       ∙ sum-below-ext (nameCount w) _ _
       (λ i l.
       ap (λ (b : Bool). cond b 1 0)
-      (ap (λ (x : ℕ). ltb x (id * 256)) (words-at i l)
-      ∙ same-test (ltb (nameWord w i) (id * 256)) (ltb (nameWord w i / 256) id)
-      (λ e. let h = ltb-true (nameWord w i) (id * 256) e in lt-ltb (nameWord w i / 256) id (omega arith))
-      (λ e. let h = ltb-true (nameWord w i / 256) id e in lt-ltb (nameWord w i) (id * 256) (omega arith))))
-
-  -- an id that is too large is past all names
-  pub place-large : (id : ℕ) → largestId < id → nameCount w ≡ namePlace w id
-  unfolding namePlace
-  place-large id h =
-      sym
-      (count-below-place (λ (i : ℕ). ltb (nameId w i) id) (nameCount w) (nameCount w) (omega arith)
-      (λ i l. let m = names-facts w (good .names) .id i l in lt-ltb (nameId w i) id (omega arith))
-      (λ i l m. absurd (omega arith)))
+      (ap (λ (x : ℕ). ltb x (sizeRoom * id)) (word-at i)
+      ∙ same-test (ltb (nameWord w i) (sizeRoom * id)) (ltb (nameWord w i / sizeRoom) id)
+      (λ e. let h = ltb-true (nameWord w i) (sizeRoom * id) e in lt-ltb (nameWord w i / sizeRoom) id (omega arith))
+      (λ e. let h = ltb-true (nameWord w i / sizeRoom) id e in lt-ltb (nameWord w i) (sizeRoom * id) (omega arith))))
 
   ids-fall : (id : ℕ) → Falling (λ (i : ℕ). ltb (nameId w i) id) (nameCount w)
   ids-fall id i j l m e =

@@ -1,4 +1,4 @@
--- Words that agree on the first 3 + N + 4D + P words have the same head, names and rows and, where they are good, the same lists; and one is good
+-- Words that agree up to the total have the same head, names and rows and, where they are good, the same lists; and one is good
 -- where the other is. Laws.antt hands this last on (`good-total`, `verdict-total`); the others are cited by `lists`, `search` and `statements`.
 -- Assumes nothing.
 use mathlib.Core.Path.{_≡_, refl, sym, ap, ap₂, _∙_}
@@ -15,7 +15,7 @@ use Rattle.laws.specs.Below.{allBelow, anyBelow, sumBelow, countBelow}
 use Rattle.laws.proofs.Below.{and-both, and-left, and-right, all-ext, sum-below-ext}
 use Rattle.laws.proofs.Found.{any-ext}
 use Rattle.names.specs.Features.{mostFeatures}
-use Rattle.words.specs.Words.{nameCount, rowCount, postingCount, nameWord, nameId, nameSize, rowSize, rowFeature, rowPlace, rowLength, rowStart, postingsStart, posting, listStart, listAt, total}
+use Rattle.words.specs.Words.{headWidth, nameCount, rowCount, postingCount, nameStart, sizeRoom, rowWidth, featureColumn, placeColumn, lengthColumn, nameWord, nameId, nameSize, rowSize, rowFeature, rowPlace, rowLength, rowStart, postingsStart, posting, listStart, listAt, total}
 use Rattle.index.specs.Good.{mostNames, mostPostings, largestId, leastSize, headGood, nameGood, namesGood, rowBefore, placeDue, rowGood, rowsGood, isName, listGood, listsWith, listsGood, goodOf, Good}
 use Rattle.index.proofs.Facts.{Rows, good-facts, list-within}
 
@@ -36,18 +36,18 @@ module _ (w v : List ℕ) (same : take (total w) w ≡ take (total w) v) (long :
 
   word-same : (i : ℕ) → i < nameCount w → nameWord v i ≡ nameWord w i
   unfolding nameWord
-  word-same i l = at (3 + i) (omega arith)
+  word-same i l = at (nameStart i) (omega arith)
 
   pub id-same : (i : ℕ) → i < nameCount w → nameId v i ≡ nameId w i
   unfolding nameId
-  id-same i l = ap (λ (x : ℕ). x / 256) (word-same i l)
+  id-same i l = ap (λ (x : ℕ). x / sizeRoom) (word-same i l)
 
   pub size-same : (i : ℕ) → i < nameCount w → nameSize v i ≡ nameSize w i
   unfolding nameSize
-  size-same i l = ap (λ (x : ℕ). x % 256) (word-same i l)
+  size-same i l = ap (λ (x : ℕ). x % sizeRoom) (word-same i l)
 
   row-start : (r : ℕ) → rowStart v r ≡ rowStart w r
-  row-start r = ap (λ (n : ℕ). 3 + n + 4 * r) names-same
+  row-start r = ap (λ (n : ℕ). nameStart n + rowWidth * r) names-same
 
   pub row-size-same : (r : ℕ) → r < rowCount w → rowSize v r ≡ rowSize w r
   unfolding rowSize
@@ -55,18 +55,18 @@ module _ (w v : List ℕ) (same : take (total w) w ≡ take (total w) v) (long :
 
   pub feature-same : (r : ℕ) → r < rowCount w → rowFeature v r ≡ rowFeature w r
   unfolding rowFeature
-  feature-same r l = ap (λ (n : ℕ). getD v (n + 1) 0) (row-start r) ∙ at (rowStart w r + 1) (omega arith)
+  feature-same r l = ap (λ (n : ℕ). getD v (n + featureColumn) 0) (row-start r) ∙ at (rowStart w r + featureColumn) (omega arith)
 
   place-same : (r : ℕ) → r < rowCount w → rowPlace v r ≡ rowPlace w r
   unfolding rowPlace
-  place-same r l = ap (λ (n : ℕ). getD v (n + 2) 0) (row-start r) ∙ at (rowStart w r + 2) (omega arith)
+  place-same r l = ap (λ (n : ℕ). getD v (n + placeColumn) 0) (row-start r) ∙ at (rowStart w r + placeColumn) (omega arith)
 
   length-same : (r : ℕ) → r < rowCount w → rowLength v r ≡ rowLength w r
   unfolding rowLength
-  length-same r l = ap (λ (n : ℕ). getD v (n + 3) 0) (row-start r) ∙ at (rowStart w r + 3) (omega arith)
+  length-same r l = ap (λ (n : ℕ). getD v (n + lengthColumn) 0) (row-start r) ∙ at (rowStart w r + lengthColumn) (omega arith)
 
   postings-start : postingsStart v ≡ postingsStart w
-  postings-start = ap₂ (λ (n d : ℕ). 3 + n + 4 * d) names-same rows-same
+  postings-start = ap₂ (λ (n d : ℕ). nameStart n + rowWidth * d) names-same rows-same
 
   pub total-same : total v ≡ total w
   total-same = ap₂ _+_ postings-start postings-same
@@ -111,7 +111,7 @@ module _ (w v : List ℕ) (same : take (total w) w ≡ take (total w) v) (long :
         let d = rows-same in
         let p = postings-same in
         and-both _ _
-        (and-both _ _ (and-both _ _ (le-leb 3 (length v) (omega arith)) (le-leb (nameCount v) mostNames (omega arith)))
+        (and-both _ _ (and-both _ _ (le-leb headWidth (length v) (omega arith)) (le-leb (nameCount v) mostNames (omega arith)))
         (le-leb (postingCount v) mostPostings (omega arith)))
         (le-leb (total v) (length v) (omega arith))
 

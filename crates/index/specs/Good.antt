@@ -10,7 +10,7 @@ use lib.Dec.{leb, ltb, eqb}
 use Rattle.laws.specs.Lists.{member}
 use Rattle.laws.specs.Below.{allBelow, anyBelow, sumBelow, countBelow}
 use Rattle.names.specs.Features.{sizeOf, gramLength, mostFeatures}
-use Rattle.words.specs.Words.{nameCount, rowCount, postingCount, nameId, nameSize, rowSize, rowFeature, rowPlace, rowLength, posting, listAt, total}
+use Rattle.words.specs.Words.{headWidth, nameCount, rowCount, postingCount, nameId, nameSize, rowSize, rowFeature, rowPlace, rowLength, posting, listAt, total}
 
 -- ---- the limits
 
@@ -29,10 +29,10 @@ leastSize = sizeOf gramLength 1
 
 -- ---- the head
 
--- the three head words are there, N and P are within their limits, and all that the head announces lies within the slice
+-- the head words are there, N and P are within their limits, and all that the head announces lies within the slice
 unfoldable pub headGood : List ℕ → Bool
 headGood w =
-    leb 3 (length w) && leb (nameCount w) mostNames && leb (postingCount w) mostPostings && leb (total w) (length w)
+    leb headWidth (length w) && leb (nameCount w) mostNames && leb (postingCount w) mostPostings && leb (total w) (length w)
 
 -- ---- the names
 

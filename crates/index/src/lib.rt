@@ -5,7 +5,7 @@ ghost use Prim.Native.Nat.{ℕ, _+_, _-_, _*_, _≤_, _<_};
 ghost use lib.ListN.{length, getD};
 ghost use lib.Dec.{eqb};
 ghost use Rattle.laws.specs.Below.{allBelow};
-ghost use Rattle.words.specs.Words.{nameCount, rowCount, namesStart, nameSize};
+ghost use Rattle.words.specs.Words.{nameCount, rowCount, nameWidth, nameStart, nameSize};
 ghost use Rattle.index.specs.Good.{headGood, nameGood, namesGood, rowsGood, listGood, listsGood, goodOf};
 ghost use Rattle.index.specs.Check.{Named, Checked, Tallied, namePlace, nameFor, guessRoom};
 
@@ -24,7 +24,7 @@ fn head_good(words: &[u32]) -> bool
     ensures { λ r. ⌜ r ≡ headGood (now (words .entry)) ⌝ }
 {
     let n = words.len();
-    if n < 3 {
+    if n < words::HEAD_WIDTH {
         return false;
     }
     if MOST_NAMES < words::name_count(words) {
@@ -38,7 +38,7 @@ fn head_good(words: &[u32]) -> bool
 }
 
 fn name_good(words: &[u32], i: usize) -> bool
-    requires { ⌜ namesStart + i < length (now words) ⌝ }
+    requires { ⌜ nameStart i + nameWidth ≤ length (now words) ⌝ }
     ensures { λ r. ⌜ r ≡ nameGood (now (words .entry)) i ⌝ }
 {
     if LARGEST_ID < words::name_id(words, i) {
@@ -103,11 +103,8 @@ pub fn name_place(words: &[u32], id: u32) -> usize
     ensures { λ r. ⌜ r ≡ namePlace (now (words .entry)) id ⌝ }
 {
     let names = words::name_count(words);
-    if LARGEST_ID < id {
-        return names;
-    }
-    let end = 3 + names;
-    halving::place_in(&words[3..end], id * 256)
+    let first = words::SIZE_ROOM as u64 * id as u64;
+    halving::place_in_column(words, words::NAMES_START, words::NAME_WIDTH, names, first)
 }
 
 // The place of the name of that id and that size; N where there is none.

@@ -17,7 +17,7 @@ use Rattle.lists.specs.Lists.{rowFor, spanAt, spanIn}
 use Rattle.lists.specs.Part.{none}
 use Rattle.lists.proofs.Laws.{row-found, row-for}
 
-pub rows-most : (w : List ℕ) → Good w → 3 + rowCount w ≤ length w
+pub rows-most : (w : List ℕ) → Good w → rowCount w ≤ length w
 rows-most w g = let h = good-facts w g .head .within in omega arith
 
 module _ (w : List ℕ) (g : Good w) (r : ℕ) (row : r < rowCount w) where

@@ -1,4 +1,4 @@
--- Words that agree with a good index on its first 3 + N + 4D + P words have the same lists. Cited by `search`.
+-- Words that agree with a good index up to its total have the same lists. Cited by `search`.
 -- Assumes nothing.
 use mathlib.Core.Path.{_≡_, refl, ap, ap₂, _∙_}
 use mathlib.Core.Bool.{Bool, true, false, cond, _&&_}

@@ -30,7 +30,7 @@ use Rattle.index.specs.Good.{mostNames, mostPostings, largestId, rowBefore, lis
 use Rattle.lists.specs.Lists.{listIn, featuresIn}
 use Rattle.postings.specs.Built.{Entry, noEntry, wordOf, idSpan, tripleOf, triplesOf, allTriples, Row, noRow, runsOf, listsOf, triplesFrom, RowFit, RowsFit, rowWords, wordsFrom, rowsOf, wordsOf, EntryFit, Fit}
 use Rattle.postings.specs.Contents.{namesIn, rowIn, rowsIn, entryIn, entriesIn, Narrow}
-use Rattle.postings.specs.Plain.{Named, Plain}
+use Rattle.postings.specs.Plain.{NameOf, Plain}
 use Rattle.index.proofs.Facts.{Before, row-before}
 use Rattle.index.proofs.Laws.{good-ids-apart}
 use Rattle.lists.proofs.Laws.{features-member}
@@ -290,7 +290,7 @@ module _ (es : List Entry) (fit : Fit es) (rest : List ℕ) where
           row-before (wordsOf es ++ rest) r (r + 1) (rw (s, t, u, v) c)
 
       named : (r id : ℕ) → r < rowCount (wordsOf es ++ rest) → member id (listAt (wordsOf es ++ rest) r) ≡ true
-          → Named (wordsOf es ++ rest) (rowSize (wordsOf es ++ rest) r) id
+          → NameOf (wordsOf es ++ rest) (rowSize (wordsOf es ++ rest) r) id
       named r id h m =
           let p = row-entry r id h m in
           let a = built-name-count es rest in

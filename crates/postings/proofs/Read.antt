@@ -5,19 +5,25 @@
 use mathlib.Core.Path.{_≡_, refl, sym, ap, ap₂, _∙_}
 use mathlib.Core.List.{List, [], _∷_, _++_, append-assoc, append-nil}
 use Prim.Native.Nat.{ℕ, zero, suc, _+_, _*_, _/_, _%_, _≤_, _<_}
-use native.Mathlib.Nat.{add-zero, zero-add}
+use native.Mathlib.Nat.{add-zero, zero-add, one-mul}
 use native.Mathlib.Omega.{arith}
 use lib.ListN.{length, getD, take, drop, set, length-append, List·getD-append}
 use lib.Seq.{getD-drop, getD-take, drop-drop, drop-append-seam, take-append-seam, drop-at, take-add, take-suc, set-at}
 use Rattle.laws.specs.Lists.{tabulate}
 use Rattle.laws.specs.Below.{sumBelow}
-use Rattle.laws.proofs.Lists.{length-tabulate}
+use Rattle.laws.proofs.Lists.{length-tabulate, tabulate-ext}
 use Rattle.laws.proofs.Images.{tabulate-of, tabulate-part}
-use Rattle.words.specs.Words.{nameCount, rowCount, postingCount, namesStart, nameWord, rowsStart, rowStart, rowWidth, rowSize, rowFeature, rowPlace, rowLength, postingsStart, listAt, total, featureSpan}
+use Rattle.words.specs.Words.{nameCount, rowCount, postingCount, namesStart, nameStart, nameWord, rowsStart, rowStart, rowWidth, rowSize, rowFeature, rowPlace, rowLength, postingsStart, listAt, total, featureSpan}
 use Rattle.postings.specs.Built.{Row, noRow, oneRow, longerRow, idSpan, listsOf, rowWords, wordsFrom}
 use Rattle.postings.specs.Contents.{namesIn, rowIn, rowsIn, Narrow}
 use Rattle.postings.specs.Plain.{Plain}
 use Rattle.postings.proofs.Plain.{plain-length}
+
+-- ---- names
+
+-- a name is one word, so the names' words stand side by side
+one-word : (i : ℕ) → nameStart i ≡ namesStart + i
+one-word i = ap (λ (n : ℕ). namesStart + n) (one-mul i)
 
 -- ---- rows and lists
 
@@ -123,7 +129,8 @@ module _ (names : List ℕ) (rows : List Row) (rest : List ℕ) where
 
   rows-on : drop (rowsStart (wordsFrom names rows ++ rest)) (wordsFrom names rows ++ rest) ≡ rowWords 0 rows ++ (listsOf rows ++ rest)
   rows-on =
-      ap (λ (n : ℕ). drop (namesStart + n) (wordsFrom names rows ++ rest)) read-name-count
+      ap (λ (n : ℕ). drop n (wordsFrom names rows ++ rest)) (one-word (nameCount (wordsFrom names rows ++ rest)))
+      ∙ ap (λ (n : ℕ). drop (namesStart + n) (wordsFrom names rows ++ rest)) read-name-count
       ∙ sym (drop-drop (length names) namesStart (wordsFrom names rows ++ rest))
       ∙ ap (drop (length names)) names-on
       ∙ drop-append-seam names (rowWords 0 rows ++ (listsOf rows ++ rest))
@@ -138,7 +145,8 @@ module _ (names : List ℕ) (rows : List Row) (rest : List ℕ) where
   pub read-name : (i : ℕ) → i < length names → nameWord (wordsFrom names rows ++ rest) i ≡ getD names i 0
   unfolding nameWord
   read-name i h =
-      sym (getD-drop namesStart (wordsFrom names rows ++ rest) i 0)
+      ap (λ (n : ℕ). getD (wordsFrom names rows ++ rest) n 0) (one-word i)
+      ∙ sym (getD-drop namesStart (wordsFrom names rows ++ rest) i 0)
       ∙ ap (λ (l : List ℕ). getD l i 0) names-on
       ∙ List·getD-append names (rowWords 0 rows ++ (listsOf rows ++ rest)) 0 i h
 
@@ -324,7 +332,11 @@ module _ (w : List ℕ) (f : Plain w) (narrow : Narrow w) where
       ∙ ap₂ _++_
       (take-add (rowsStart w) (rowWidth * rowCount w) w
       ∙ ap₂ _++_
-      (take-add namesStart (nameCount w) w ∙ ap₂ _++_ (take-three w (f .head)) (tabulate-part w namesStart (nameCount w) 0 room))
+      (ap (λ (n : ℕ). take n w) (one-word (nameCount w))
+      ∙ take-add namesStart (nameCount w) w
+      ∙ ap₂ _++_ (take-three w (f .head))
+      (tabulate-part w namesStart (nameCount w) 0 room
+      ∙ tabulate-ext (λ (i : ℕ). getD w (namesStart + i) 0) (nameWord w) (nameCount w) (λ i h. ap (λ (n : ℕ). getD w n 0) (sym (one-word i)))))
       (rows-written (rowCount w) (omega arith)))
       (ap (λ (n : ℕ). take n (drop (postingsStart w) w)) (sym (f .sum)) ∙ lists-written (rowCount w) (omega arith))
       ∙ regroup
@@ -333,7 +345,7 @@ module _ (w : List ℕ) (f : Plain w) (narrow : Narrow w) where
       room = let b = f .room in omega arith
 
       names : List ℕ
-      names = tabulate (λ (i : ℕ). getD w (namesStart + i) 0) (nameCount w)
+      names = tabulate (nameWord w) (nameCount w)
 
       rows : List Row
       rows = tabulate (rowIn w) (rowCount w)
@@ -342,7 +354,7 @@ module _ (w : List ℕ) (f : Plain w) (narrow : Narrow w) where
           ≡ length names ∷ length rows ∷ length (listsOf rows) ∷ (names ++ (rowWords 0 rows ++ listsOf rows))
       regroup =
           λ i.
-          sym (length-tabulate (λ (j : ℕ). getD w (namesStart + j) 0) (nameCount w)) i
+          sym (length-tabulate (nameWord w) (nameCount w)) i
           ∷ sym (length-tabulate (rowIn w) (rowCount w)) i
           ∷ sym (lists-length (rowCount w) (omega arith) ∙ f .sum) i
           ∷ append-assoc names (rowWords 0 rows) (listsOf rows) i

@@ -12,7 +12,7 @@ use Rattle.laws.specs.Lists.{member, Distinct, Ascending}
 use Rattle.laws.specs.Each.{Each}
 use Rattle.laws.specs.Sort.{sortOf}
 use Rattle.names.specs.Features.{mostFeatures}
-use Rattle.words.specs.Words.{featureSpan, keyOf}
+use Rattle.words.specs.Words.{sizeRoom, featureSpan, keyOf}
 use Rattle.index.specs.Good.{mostNames, largestId, leastSize}
 
 -- ---- a name with its features
@@ -27,7 +27,7 @@ noEntry = record { id = 0; features = [] }
 
 -- its name word: id × 256 + size
 abbrev pub wordOf : Entry → ℕ
-wordOf e = e .id * 256 + length (e .features)
+wordOf e = e .id * sizeRoom + length (e .features)
 
 -- ---- a posting as one number, which orders by size, then feature, then id
 

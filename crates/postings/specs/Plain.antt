@@ -8,15 +8,15 @@ use lib.ListN.{length}
 use Rattle.laws.specs.Lists.{member, Ascending}
 use Rattle.laws.specs.Below.{sumBelow}
 use Rattle.names.specs.Features.{mostFeatures}
-use Rattle.words.specs.Words.{nameCount, rowCount, postingCount, nameId, nameSize, rowSize, rowPlace, rowLength, listAt, total}
+use Rattle.words.specs.Words.{headWidth, nameCount, rowCount, postingCount, nameId, nameSize, rowSize, rowPlace, rowLength, listAt, total}
 use Rattle.index.specs.Good.{mostNames, mostPostings, largestId, leastSize, rowBefore, listsWith}
 
 -- a name of that id and size stands among the names
-abbrev pub Named : List ℕ → ℕ → ℕ → Type 0
-Named w size id = (i : ℕ) × (i < nameCount w) × (nameId w i ≡ id) × (nameSize w i ≡ size)
+abbrev pub NameOf : List ℕ → ℕ → ℕ → Type 0
+NameOf w size id = (i : ℕ) × (i < nameCount w) × (nameId w i ≡ id) × (nameSize w i ≡ size)
 
 pub record Plain (w : List ℕ) : Type 0 where
-  pub head : 3 ≤ length w
+  pub head : headWidth ≤ length w
   pub few : nameCount w ≤ mostNames
   pub postings : postingCount w ≤ mostPostings
   pub room : total w ≤ length w
@@ -29,5 +29,5 @@ pub record Plain (w : List ℕ) : Type 0 where
   pub rows : (r : ℕ) → r + 1 < rowCount w → rowBefore w r (r + 1) ≡ true
   pub sum : sumBelow (rowCount w) (rowLength w) ≡ postingCount w
   pub up : (r : ℕ) → r < rowCount w → Ascending (listAt w r)
-  pub named : (r id : ℕ) → r < rowCount w → member id (listAt w r) ≡ true → Named w (rowSize w r) id
+  pub named : (r id : ℕ) → r < rowCount w → member id (listAt w r) ≡ true → NameOf w (rowSize w r) id
   pub held : (i : ℕ) → i < nameCount w → listsWith w (nameId w i) ≡ nameSize w i

@@ -6,7 +6,7 @@ ghost use mathlib.Core.List.{List, [], _∷_, _++_, map};
 ghost use Prim.Native.Nat.{ℕ, _+_, _*_, _/_, _%_, _≤_, _<_};
 ghost use lib.ListN.{length, replicate};
 ghost use lib.Seq.{sets};
-ghost use Rattle.words.specs.Words.{featureSpan};
+ghost use Rattle.words.specs.Words.{headWidth, rowWidth, featureSpan};
 ghost use Rattle.index.specs.Good.{mostNames, mostPostings};
 ghost use Rattle.postings.specs.Built.{idSpan, runsOf, rowWords, wordsFrom};
 ghost use Rattle.postings.specs.Written.{blank, fitsIn, writtenIn};
@@ -84,32 +84,32 @@ fn put_lists(keys: &[u64], out: &mut [u32])
 
 // Puts the four words of a new row at `at`: the posting's size and feature, the place of its list, and a count of 1.
 fn new_row(key: u64, place: u32, out: &mut [u32], at: usize)
-    requires { ⌜ at + 4 ≤ length (now out) ⌝ }
+    requires { ⌜ at + rowWidth ≤ length (now out) ⌝ }
     ensures { λ r. ⌜ now (out .exit) ≡ sets (now (out .entry)) at ((key / idSpan / featureSpan) ∷ (key / idSpan % featureSpan) ∷ place ∷ 1 ∷ []) ⌝ }
 {
     out[at] = (key / 65536 / 4294967296) as u32;
-    out[at + 1] = (key / 65536 % 4294967296) as u32;
-    out[at + 2] = place;
-    out[at + 3] = 1;
+    out[at + words::FEATURE_COLUMN] = (key / 65536 % 4294967296) as u32;
+    out[at + words::PLACE_COLUMN] = place;
+    out[at + words::LENGTH_COLUMN] = 1;
 }
 
 // Puts the posting at place i into the rows, of which d are there: a new row where one begins, and otherwise one id more in the last row.
 fn put_row(keys: &[u64], i: usize, out: &mut [u32], d: usize) -> usize
-    requires { ⌜ (i < length (now keys)) × (length (now keys) ≤ mostPostings) × (length (now out) ≡ 4 * length (runsOf (now keys))) × RowsAt (now keys) i d (now out) ⌝ }
+    requires { ⌜ (i < length (now keys)) × (length (now keys) ≤ mostPostings) × (length (now out) ≡ rowWidth * length (runsOf (now keys))) × RowsAt (now keys) i d (now out) ⌝ }
     ensures { λ r. ⌜ RowsAt (now (keys .entry)) (i + 1) r (now (out .exit)) ⌝ }
 {
     if begins_row(keys, i) {
-        new_row(keys[i], i as u32, out, 4 * d);
+        new_row(keys[i], i as u32, out, words::ROW_WIDTH * d);
         return d + 1;
     }
-    let last = 4 * d - 1;
+    let last = words::ROW_WIDTH * d - 1;
     out[last] = out[last] + 1;
     d
 }
 
 // Puts the rows of postings in order.
 fn put_rows(keys: &[u64], out: &mut [u32])
-    requires { ⌜ (length (now keys) ≤ mostPostings) × (length (now out) ≡ 4 * length (runsOf (now keys))) ⌝ }
+    requires { ⌜ (length (now keys) ≤ mostPostings) × (length (now out) ≡ rowWidth * length (runsOf (now keys))) ⌝ }
     ensures { λ r. ⌜ now (out .exit) ≡ rowWords 0 (runsOf (now (keys .entry))) ⌝ }
 {
     let mut d = 0;
@@ -122,22 +122,22 @@ fn put_rows(keys: &[u64], out: &mut [u32])
 
 // Writes the rows of postings in order, and their lists behind them.
 fn put_tail(keys: &[u64], d: usize, words: &mut [u32])
-    requires { ⌜ (length (now keys) ≤ mostPostings) × (d ≡ length (runsOf (now keys))) × (d ≤ mostPostings) × (length (now words) ≡ 4 * d + length (now keys)) ⌝ }
+    requires { ⌜ (length (now keys) ≤ mostPostings) × (d ≡ length (runsOf (now keys))) × (d ≤ mostPostings) × (length (now words) ≡ rowWidth * d + length (now keys)) ⌝ }
     ensures { λ r. ⌜ now (words .exit) ≡ rowWords 0 (runsOf (now (keys .entry))) ++ map (λ (k : ℕ). k % idSpan) (now (keys .entry)) ⌝ }
 {
-    let rows = 4 * d;
+    let rows = words::ROW_WIDTH * d;
     put_rows(keys, &mut words[..rows]);
     put_lists(keys, &mut words[rows..]);
 }
 
 // Writes the index of name words and postings in order.
 fn put_words(names: &[u32], keys: &[u64], d: usize, words: &mut [u32])
-    requires { ⌜ (length (now names) ≤ mostNames) × (length (now keys) ≤ mostPostings) × (d ≡ length (runsOf (now keys))) × (d ≤ mostPostings) × (length (now words) ≡ 3 + length (now names) + 4 * d + length (now keys)) ⌝ }
+    requires { ⌜ (length (now names) ≤ mostNames) × (length (now keys) ≤ mostPostings) × (d ≡ length (runsOf (now keys))) × (d ≤ mostPostings) × (length (now words) ≡ headWidth + length (now names) + rowWidth * d + length (now keys)) ⌝ }
     ensures { λ r. ⌜ now (words .exit) ≡ wordsFrom (now (names .entry)) (runsOf (now (keys .entry))) ⌝ }
 {
     let n = names.len();
-    let rows = 3 + n;
-    put_names(names, &mut words[3..rows]);
+    let rows = words::HEAD_WIDTH + n;
+    put_names(names, &mut words[words::HEAD_WIDTH..rows]);
     put_tail(keys, d, &mut words[rows..]);
     words[0] = n as u32;
     words[1] = d as u32;
@@ -150,7 +150,7 @@ pub fn write_index(names: &[u32], keys: &[u64], words: &mut [u32]) -> bool
     ensures { λ r. ⌜ (r ≡ fitsIn (length (now (words .entry))) (wordsFrom (now (names .entry)) (runsOf (now (keys .entry))))) × (now (words .exit) ≡ writtenIn (length (now (words .entry))) (wordsFrom (now (names .entry)) (runsOf (now (keys .entry))))) ⌝ }
 {
     let d = count_rows(keys);
-    let total = 3 + names.len() + 4 * d + keys.len();
+    let total = words::HEAD_WIDTH + names.len() + words::ROW_WIDTH * d + keys.len();
     let room = words.len();
     if room < total {
         fill(words);

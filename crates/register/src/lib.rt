@@ -6,7 +6,7 @@ ghost use lib.ListN.{length, getD, set};
 ghost use lib.Seq.{paste};
 ghost use Rattle.names.specs.Names.{judgeOf};
 ghost use Rattle.names.specs.Features.{featuresOf, mostFeatures};
-ghost use Rattle.words.specs.Words.{featureSpan};
+ghost use Rattle.words.specs.Words.{sizeRoom, featureSpan};
 ghost use Rattle.index.specs.Good.{mostNames, mostPostings, largestId};
 ghost use Rattle.postings.specs.Built.{idSpan, tripleOf};
 ghost use Rattle.register.specs.Build.{builtOf, wordsAfter};
@@ -83,11 +83,11 @@ fn add_name(
     p: usize,
 ) -> usize
     requires { ⌜ (judgeOf (now name) ≡ 0) × (id ≤ largestId) × (n < length (now names)) × (p + length (featuresOf (now name)) ≤ length (now triples)) ⌝ }
-    ensures { λ r. ⌜ (r ≡ p + length (featuresOf (now (name .entry)))) × (now (names .exit) ≡ set (now (names .entry)) n (id * 256 + length (featuresOf (now (name .entry))))) × (now (triples .exit) ≡ paste (now (triples .entry)) p (map (λ (f : ℕ). tripleOf (length (featuresOf (now (name .entry)))) f id) (featuresOf (now (name .entry)))) (length (featuresOf (now (name .entry))))) ⌝ }
+    ensures { λ r. ⌜ (r ≡ p + length (featuresOf (now (name .entry)))) × (now (names .exit) ≡ set (now (names .entry)) n (id * sizeRoom + length (featuresOf (now (name .entry))))) × (now (triples .exit) ≡ paste (now (triples .entry)) p (map (λ (f : ℕ). tripleOf (length (featuresOf (now (name .entry)))) f id) (featuresOf (now (name .entry)))) (length (featuresOf (now (name .entry))))) ⌝ }
 {
     let set = names::features(name);
     let len = set.len;
-    names[n] = id * 256 + len as u32;
+    names[n] = id * words::SIZE_ROOM + len as u32;
     put_triples(&set.items, len, id as u64, triples, p);
     p + len
 }

@@ -1,4 +1,4 @@
--- Words that agree with a good index on its first 3 + N + 4D + P words are searched alike: the same steps, the same answers, the same counts.
+-- Words that agree with a good index up to its total are searched alike: the same steps, the same answers, the same counts.
 -- Assumes nothing.
 use mathlib.Core.Path.{_≡_, refl, ap, ap₂, _∙_}
 use mathlib.Core.Bool.{Bool, cond, _&&_}

@@ -1,5 +1,5 @@
 -- How the index words are laid out: the one place that knows where a name, a row and a posting stand.
--- Three head words, N name words, D rows of four words, P postings. Everything above reads the words through these.
+-- Head words, N names, D rows, P postings of a word each. Everything above reads the words through these, and names no width or place as a number.
 -- Past the end of the slice a word is 0.
 -- Assumes nothing.
 use mathlib.Core.List.{List}
@@ -7,6 +7,10 @@ use Prim.Native.Nat.{ℕ, _+_, _*_, _/_, _%_, _^_}
 use lib.ListN.{length, getD, take, drop}
 
 -- ---- the head
+
+-- how many words it has
+abbrev pub headWidth : ℕ
+headWidth = 3
 
 -- N, how many names
 abbrev pub nameCount : List ℕ → ℕ
@@ -22,18 +26,29 @@ postingCount w = getD w 2 0
 
 -- ---- a name: id × 256 + size
 
--- where the names start
+-- how many words a name has
+abbrev pub nameWidth : ℕ
+nameWidth = 1
+
+-- the sizes that a name's word has room for are below this
+abbrev pub sizeRoom : ℕ
+sizeRoom = 256
+
+-- where the names start, and where name i starts
 abbrev pub namesStart : ℕ
-namesStart = 3
+namesStart = headWidth
+
+abbrev pub nameStart : ℕ → ℕ
+nameStart i = namesStart + nameWidth * i
 
 unfoldable pub nameWord : List ℕ → ℕ → ℕ
-nameWord w i = getD w (namesStart + i) 0
+nameWord w i = getD w (nameStart i) 0
 
 unfoldable pub nameId : List ℕ → ℕ → ℕ
-nameId w i = nameWord w i / 256
+nameId w i = nameWord w i / sizeRoom
 
 unfoldable pub nameSize : List ℕ → ℕ → ℕ
-nameSize w i = nameWord w i % 256
+nameSize w i = nameWord w i % sizeRoom
 
 -- ---- a row: size, feature, place, count
 
@@ -56,7 +71,7 @@ lengthColumn = 3
 
 -- where the rows start
 abbrev pub rowsStart : List ℕ → ℕ
-rowsStart w = namesStart + nameCount w
+rowsStart w = nameStart (nameCount w)
 
 -- where row r starts
 abbrev pub rowStart : List ℕ → ℕ → ℕ
@@ -124,6 +139,6 @@ listStart w r = postingsStart w + rowPlace w r
 unfoldable pub listAt : List ℕ → ℕ → List ℕ
 listAt w r = take (rowLength w r) (drop (listStart w r) w)
 
--- how many words the index takes: 3 + N + 4D + P
+-- how many words the index takes: head, names, rows and postings
 abbrev pub total : List ℕ → ℕ
 total w = postingsStart w + postingCount w

@@ -2,7 +2,17 @@
 ghost use mathlib.Core.Path.{_≡_};
 ghost use Prim.Native.Nat.{_+_, _*_, _^_, _≤_, _<_};
 ghost use lib.ListN.{length, getD};
-ghost use Rattle.words.specs.Words.{nameCount, rowCount, postingCount, namesStart, nameId, nameSize, rowWidth, rowStart, rowSize, rowFeature, rowPlace, rowLength, rowKey, partRows, partFeature, partPlace, partLength};
+ghost use Rattle.words.specs.Words.{headWidth, nameCount, rowCount, postingCount, nameWidth, nameStart, nameId, nameSize, rowWidth, rowStart, rowSize, rowFeature, rowPlace, rowLength, rowKey, partRows, partFeature, partPlace, partLength};
+
+// How many words the head has, a name, and the sizes that a name's word has room for.
+pub const HEAD_WIDTH: usize = 3;
+
+pub const NAME_WIDTH: usize = 1;
+
+pub const SIZE_ROOM: u32 = 256;
+
+// Where the names start.
+pub const NAMES_START: usize = HEAD_WIDTH;
 
 // How many words a row has, and which of them is which.
 pub const ROW_WIDTH: usize = 4;
@@ -23,7 +33,7 @@ fn wide(x: u32) -> usize
 
 // N, how many names.
 pub fn name_count(words: &[u32]) -> usize
-    requires { ⌜ namesStart ≤ length (now words) ⌝ }
+    requires { ⌜ headWidth ≤ length (now words) ⌝ }
     ensures { λ r. ⌜ (r ≡ nameCount (now (words .entry))) × (r < 4294967296) ⌝ }
 {
     wide(words[0])
@@ -31,7 +41,7 @@ pub fn name_count(words: &[u32]) -> usize
 
 // D, how many rows.
 pub fn row_count(words: &[u32]) -> usize
-    requires { ⌜ namesStart ≤ length (now words) ⌝ }
+    requires { ⌜ headWidth ≤ length (now words) ⌝ }
     ensures { λ r. ⌜ (r ≡ rowCount (now (words .entry))) × (r < 4294967296) ⌝ }
 {
     wide(words[1])
@@ -39,7 +49,7 @@ pub fn row_count(words: &[u32]) -> usize
 
 // P, how many postings.
 pub fn posting_count(words: &[u32]) -> usize
-    requires { ⌜ namesStart ≤ length (now words) ⌝ }
+    requires { ⌜ headWidth ≤ length (now words) ⌝ }
     ensures { λ r. ⌜ (r ≡ postingCount (now (words .entry))) × (r < 4294967296) ⌝ }
 {
     wide(words[2])
@@ -47,26 +57,26 @@ pub fn posting_count(words: &[u32]) -> usize
 
 // The id of name i.
 pub fn name_id(words: &[u32], i: usize) -> u32
-    requires { ⌜ namesStart + i < length (now words) ⌝ }
+    requires { ⌜ nameStart i + nameWidth ≤ length (now words) ⌝ }
     ensures { λ r. ⌜ r ≡ nameId (now (words .entry)) i ⌝ }
 {
-    words[3 + i] / 256
+    words[NAMES_START + NAME_WIDTH * i] / SIZE_ROOM
 }
 
 // The size of name i.
 pub fn name_size(words: &[u32], i: usize) -> u32
-    requires { ⌜ namesStart + i < length (now words) ⌝ }
+    requires { ⌜ nameStart i + nameWidth ≤ length (now words) ⌝ }
     ensures { λ r. ⌜ r ≡ nameSize (now (words .entry)) i ⌝ }
 {
-    words[3 + i] % 256
+    words[NAMES_START + NAME_WIDTH * i] % SIZE_ROOM
 }
 
 // Where row r starts; with D for r, where the postings start.
 pub fn row_start(words: &[u32], r: usize) -> usize
-    requires { ⌜ (namesStart ≤ length (now words)) × (4 * r < 2 ^ 63) ⌝ }
-    ensures { λ v. ⌜ (v ≡ rowStart (now (words .entry)) r) × (v ≤ 4 * r + 4294967298) ⌝ }
+    requires { ⌜ (headWidth ≤ length (now words)) × (rowWidth * r < 2 ^ 63) ⌝ }
+    ensures { λ v. ⌜ (v ≡ rowStart (now (words .entry)) r) × (v ≤ nameStart 4294967295 + rowWidth * r) ⌝ }
 {
-    3 + wide(words[0]) + ROW_WIDTH * r
+    NAMES_START + NAME_WIDTH * wide(words[0]) + ROW_WIDTH * r
 }
 
 // Word k of row r.

@@ -1,73 +1,30 @@
--- `name_place` meets its contract: name words ascend, and those of ids below x stand before 256 x.
-use mathlib.Core.Path.{_≡_, sym, ap, subst, _∙_}
-use Prim.Native.Nat.{ℕ, _+_, _-_, _*_}
-use native.Mathlib.Nat.{add-sub-cancel-left}
+-- `name_place` meets its contract: the words of ids below one come before the least word of that id.
 use native.Mathlib.Omega.{arith}
-use mathlib.Core.List.{List}
-use lib.ListN.{take, drop}
-use lib.Dec.{ltb}
-use Rattle.laws.specs.Lists.{Ascending, countOf}
-use Rattle.words.specs.Words.{nameCount}
-use Rattle.index.proofs.Facts.{head-facts}
-use Rattle.index.proofs.Names.{nameWords, names-within, words-ascend, place-words, place-large}
 use borrow.Author.Needs.{needs}
+use Rattle.index.proofs.Facts.{head-facts}
+use Rattle.index.proofs.Names.{names-searched, place-words}
 use Rattle.index.proofs.name_place.Statement.{statement}
 use Rattle.index.proofs.name_place.Tie as tie
 
--- the part that is searched is the name words
-part : (w : List ℕ) (n : ℕ) → n ≡ nameCount w → take (3 + n - 3) (drop 3 w) ≡ nameWords w
-part w n e = ap (λ (m : ℕ). take m (drop 3 w)) (add-sub-cancel-left 3 n ∙ e)
-
 name-count-requires : tie.Need-name-count-requires
-name-count-requires c κs = head-facts _ (c .before .pre .head) .three
+name-count-requires c κs = head-facts (c .before .args .words .now) (c .before .pre .head) .three
+
+cast-first : tie.Need-cast-first
+cast-first c = search needs
+
+mul-first : tie.Need-mul-first
+mul-first c = search needs
+
+place-in-column-requires : tie.Need-place-in-column-requires
+place-in-column-requires c κs =
+    let s = c .before .before in
+    names-searched (s .args .words .now) (s .pre) (c .name-count .result) (c .name-count .ensures .0)
 
 returns : tie.Need-returns
 returns c =
     let s = c .before .before .before in
-    c .before .name-count .ensures .0 ∙ place-large (s .args .words .now) (s .pre) (s .args .id) (c .if1 .taken)
-
-add-end : tie.Need-add-end
-add-end c = search needs
-
-sub-place-in : tie.Need-sub-place-in
-sub-place-in c = search needs
-
-part-place-in-start : tie.Need-part-place-in-start
-part-place-in-start c = search needs
-
-part-place-in-end : tie.Need-part-place-in-end
-part-place-in-end c =
-    let s = c .before .before .before in
-    let e = c .before .name-count .ensures .0 in
-    let n = names-within (s .args .words .now) (s .pre) in
-    omega arith
-
-mul-place-in : tie.Need-mul-place-in
-mul-place-in c = search needs
-
-place-in-requires : tie.Need-place-in-requires
-place-in-requires c κs =
-    let s = c .before .before .before .before in
-    subst Ascending (sym (part (s .args .words .now) (c .before .before .name-count .result) (c .before .before .name-count .ensures .0))) (words-ascend (s .args .words .now) (s .pre))
-
-returns-2 : tie.Need-returns-2
-returns-2 c =
-    let s = c .before .before .before .before .before in
-    let n = c .before .before .before .name-count in
-    c .place-in .ensures
-    ∙ ap (countOf (λ (y : ℕ). ltb y (s .args .id * 256))) (part (s .args .words .now) (n .result) (n .ensures .0))
-    ∙ place-words (s .args .words .now) (s .pre) (s .args .id)
+    let n = c .before .name-count in
+    place-words (s .args .words .now) (s .pre) (n .result) (s .args .id) (c .place-in-column .result) (n .ensures .0) (c .place-in-column .ensures)
 
 pub name-place-spec : {M : Type 1} → statement M
-name-place-spec =
-    tie.close
-    (tie.spec
-    name-count-requires
-    returns
-    add-end
-    sub-place-in
-    part-place-in-start
-    part-place-in-end
-    mul-place-in
-    place-in-requires
-    returns-2)
+name-place-spec = tie.close (tie.spec name-count-requires cast-first mul-first place-in-column-requires returns)
