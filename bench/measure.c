@@ -427,20 +427,21 @@ static void take_times(struct scene *s, double *seconds, unsigned rounds)
 static struct {
     const char *what;
     int over, under;
+    const char *rows; /* how the labels of the rows begin that count */
     double goal, worst;
     char at[64];
 } goals[] = {
-    { "search_good / SimString", GOOD, SIM, 1.0, 0, "" },
-    { "search_good / twin", GOOD, TWIN_GOOD, 1.1, 0, "" },
-    { "search / twin's check and search", SEARCH, TWIN_SEARCH, 1.2, 0, "" },
-    { "build / sort_unstable", BUILD, SORT, 4.0, 0, "" },
+    { "search_good / SimString", GOOD, SIM, "", 1.0, 0, "" },
+    { "search_good / twin", GOOD, TWIN_GOOD, "", 1.1, 0, "" },
+    { "search / twin's check and search", SEARCH, TWIN_SEARCH, "", 1.2, 0, "" },
+    { "build / sort_unstable, pool names", BUILD, SORT, "256 pool names", 3.0, 0, "" },
 };
 
 static void note(const struct scene *s, const double *seconds)
 {
     for (size_t g = 0; g < sizeof goals / sizeof *goals; g++) {
         double ratio = seconds[goals[g].over] / seconds[goals[g].under];
-        if (goals[g].under == SIM && !s->simstring)
+        if ((goals[g].under == SIM && !s->simstring) || strncmp(s->label, goals[g].rows, strlen(goals[g].rows)) != 0)
             continue;
         if (ratio > goals[g].worst) {
             goals[g].worst = ratio;

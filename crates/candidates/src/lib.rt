@@ -224,8 +224,8 @@ pub fn walk_lists(
     requires { ⌜ (length (now ids) ≤ mostNames) × Ascending (now ids) × Readable (now words) (now ids) (now keys) (now starts) × (length (now keys) ≤ mostFeatures) × (1 ≤ least) × (least ≤ length (now keys)) × (length (now answers) ≡ mostNames) ⌝ }
     ensures { λ r. ⌜ Walked (now (ids .entry)) (cutLists (now (words .entry)) (now (keys .entry)) (now (starts .entry))) least budget (now (answers .entry)) (now (answers .exit)) (r .past) (r .touches) ⌝ }
 {
-    let mut counts = [0u32; 256];
-    let mut met = [0usize; 256];
+    let mut counts = [0u32; index::MOST_NAMES];
+    let mut met = [0usize; index::MOST_NAMES];
     let first = gather(
         words,
         ids,

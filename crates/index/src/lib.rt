@@ -12,13 +12,13 @@ ghost use Rattle.index.specs.Check.{Named, Checked, Tallied, namePlace, 
 // The most names, the most postings, the largest id, the least and the largest size of a good index.
 pub const MOST_NAMES: usize = 256;
 
-pub const MOST_POSTINGS: usize = 16896;
+pub const MOST_POSTINGS: usize = MOST_NAMES * names::FeatureSet::CAPACITY;
 
 pub const LARGEST_ID: u32 = 65535;
 
 pub const LEAST_SIZE: u32 = 3;
 
-pub const LARGEST_SIZE: u32 = 66;
+pub const LARGEST_SIZE: u32 = names::FeatureSet::CAPACITY as u32;
 
 fn head_good(words: &[u32]) -> bool
     ensures { λ r. ⌜ r ≡ headGood (now (words .entry)) ⌝ }
@@ -220,7 +220,7 @@ fn lists_good(words: &[u32]) -> bool
 {
     let mut guesses = [0u8; 4096];
     guess_names(words, &mut guesses);
-    let mut tally = [0u32; 256];
+    let mut tally = [0u32; MOST_NAMES];
     if !rows_tallied(words, &guesses, &mut tally) {
         return false;
     }

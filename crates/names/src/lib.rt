@@ -125,14 +125,12 @@ fn times_marked(items: &[u64], marked: &[u8], gram: u64, k: usize) -> u64
     times_in(items, gram, k)
 }
 
-// The features of a name; the empty set where the name is refused.
-pub fn features(name: &[u8]) -> FeatureSet
+// The features of a good name.
+pub fn features_good(name: &[u8]) -> FeatureSet
+    requires { ⌜ judgeOf (now name) ≡ 0 ⌝ }
     ensures { λ r. ⌜ r ≡ filled (featuresOf (now (name .entry))) ⌝ }
 {
     let mut set = FeatureSet::empty();
-    if judge(name) != 0 {
-        return set;
-    }
     let mut marked = [0u8; 251];
     let size = name.len() + 2;
     let mut gram: u64 = 0;
@@ -146,4 +144,14 @@ pub fn features(name: &[u8]) -> FeatureSet
     }
     set.len = size;
     set
+}
+
+// The features of a name; the empty set where the name is refused.
+pub fn features(name: &[u8]) -> FeatureSet
+    ensures { λ r. ⌜ r ≡ filled (featuresOf (now (name .entry))) ⌝ }
+{
+    if judge(name) != 0 {
+        return FeatureSet::empty();
+    }
+    features_good(name)
 }

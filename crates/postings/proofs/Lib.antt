@@ -8,5 +8,6 @@ pub mod Built
 pub mod Unique
 pub mod Pass
 pub mod Over
+pub mod Keys
 pub mod Rows
 pub mod Parts

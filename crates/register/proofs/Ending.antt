@@ -1,46 +1,51 @@
 -- The tables once all lines are read, and what a build answers by its tests.
 -- Assumes nothing.
-use mathlib.Core.Path.{_≡_, refl, sym, ap, ap₂, _∙_}
-use mathlib.Core.Logic.{⊎-elim}
+use mathlib.Core.Path.{_≡_, refl, sym, ap, ap₂, subst, _∙_}
 use mathlib.Core.Bool.{Bool, true, false}
 use mathlib.Core.List.{List, map}
 use Prim.Native.Nat.{ℕ, _≤_, _<_}
 use native.Mathlib.Omega.{arith}
 use borrow.Author.Tests.{eq-eqb, ne-eqb}
 use lib.ListN.{length, take, replicate}
-use lib.Seq.{take-all}
-use Rattle.laws.specs.Sort.{sortOf}
-use Rattle.laws.proofs.Order.{le-or-lt}
 use Rattle.index.specs.Good.{mostNames, mostPostings}
-use Rattle.postings.specs.Built.{Entry, wordOf, allTriples, runsOf, wordsFrom, rowsOf, wordsOf}
+use Rattle.postings.specs.Built.{Entry, wordOf, runsOf, wordsFrom, rowsOf, wordsOf, Fit}
+use Rattle.postings.specs.Keys.{triplesAt, allKeys, Keyed}
 use Rattle.postings.specs.Written.{blank, writtenIn}
+use Rattle.postings.proofs.Keys.{keys-triples}
 use Rattle.postings.proofs.Built.{few-postings}
+use Rattle.ordering.specs.Order.{sizesOf, orderedOf}
+use Rattle.ordering.proofs.Ordered.{sizes-keys, ordered-triples, ordered-keyed}
 use Rattle.register.specs.declared.Built.{Built}
 use Rattle.register.specs.Steps.{Tables}
 use Rattle.register.specs.Build.{takenOf, entriesOf, roomFor, builtOf, wordsAfter}
 
 -- ---- the tables, all lines read
 
--- the tables hold the names, and the names and postings lie within them
-pub record Held (es : List Entry) (names triples spare : List ℕ) (n p : ℕ) : Type 0 where
-  pub tables : Tables es names triples n p
-  pub few : n ≤ mostNames
+-- the tables hold the names, and the names and keys lie within them
+pub record Held (es : List Entry) (names keys ordered : List ℕ) (n p : ℕ) : Type 0 where
+  pub tables : Tables es names keys n p
   pub most : p ≤ mostPostings
   pub names-within : n ≤ length names
-  pub triples-within : p ≤ length triples
-  pub spare-within : p ≤ length spare
+  pub keys-within : p ≤ length keys
+  pub ordered-within : p ≤ length ordered
+  pub sizes : sizesOf (take n names) ≡ p
 
-pub held : {es : List Entry} {names triples : List ℕ} {n p : ℕ} → Tables es names triples n p → (spare : List ℕ)
-    → length names ≡ mostNames → length spare ≡ length triples → Held es names triples spare n p
-held {es} {names} {triples} {n} {p} t spare a b =
+pub held : {es : List Entry} {names keys : List ℕ} {n p : ℕ} → Tables es names keys n p → (ordered : List ℕ)
+    → length names ≡ mostNames → length keys ≡ mostPostings → length ordered ≡ mostPostings → Held es names keys ordered n p
+held {es} {names} {keys} {n} {p} t ordered a b d =
     let c = t .count in
     let s = t .sum in
-    let w : p ≤ length triples =
-    ⊎-elim (λ (h : p ≤ length triples). h) (λ (h : length triples < p). (let e = ap length (sym (take-all p triples (omega arith)) ∙ t .postings) in absurd (omega arith))) (le-or-lt p (length triples))
-    in
     let f = t .fit .few in
+    let k = keys-triples 0 es in
     let m = few-postings es (t .fit) in
-    record { tables = t; few = omega arith; most = omega arith; names-within = omega arith; triples-within = omega arith; spare-within = omega arith }
+    record {
+      tables = t;
+      most = omega arith;
+      names-within = omega arith;
+      keys-within = omega arith;
+      ordered-within = omega arith;
+      sizes = ap sizesOf (t .words) ∙ sizes-keys 0 es (t .fit .each) ∙ sym s;
+    }
 
 -- ---- the answer
 
@@ -61,7 +66,14 @@ module _ (register words : List ℕ) where
   unfolding builtOf wordsAfter writtenIn
   built-in z f = (rw (eq-eqb (takenOf register .number) 0 z, f), rw (eq-eqb (takenOf register .number) 0 z, f))
 
--- the index of names from their words and their postings in order
-pub words-of : (es : List Entry) (names ks : List ℕ) → names ≡ map wordOf es → ks ≡ sortOf (allTriples es) → wordsFrom names (runsOf ks) ≡ wordsOf es
-unfolding wordsOf rowsOf
-words-of es names ks e f = ap₂ (λ (a k : List ℕ). wordsFrom a (runsOf k)) e f
+-- the index of names from their words and their keys in order
+module _ (es : List Entry) (fit : Fit es) (names ks : List ℕ) (e : names ≡ map wordOf es) (f : ks ≡ orderedOf names (allKeys es)) where
+  ordered : ks ≡ orderedOf (map wordOf es) (allKeys es)
+  ordered = f ∙ ap (λ (w : List ℕ). orderedOf w (allKeys es)) e
+
+  pub words-of : wordsFrom names (runsOf (triplesAt names ks)) ≡ wordsOf es
+  unfolding wordsOf rowsOf
+  words-of = ap₂ (λ (w k : List ℕ). wordsFrom w (runsOf (triplesAt w k))) e ordered ∙ ap (λ (k : List ℕ). wordsFrom (map wordOf es) (runsOf k)) (ordered-triples es fit)
+
+  pub keyed-of : Keyed names ks
+  keyed-of = subst (λ (w : List ℕ). Keyed w ks) (sym e) (subst (Keyed (map wordOf es)) (sym ordered) (ordered-keyed es fit))

@@ -1,27 +1,29 @@
 -- The lines one after the other: what has been reached, and what one line more does to it.
 -- Assumes nothing.
 use mathlib.Core.Path.{_≡_, refl, sym, ap, ap₂, subst, _∙_}
-use mathlib.Core.List.{List, [], _∷_, _++_, map, map-append, append-nil}
+use mathlib.Core.List.{List, [], _∷_, _++_, map, map-append}
 use Prim.Native.Nat.{ℕ, zero, suc, _+_, _*_, _-_, _≤_, _<_}
 use native.Mathlib.Numerals.{add-one}
 use native.Mathlib.Omega.{arith}
 use borrow.Author.Tests.{eq-eqb, ne-eqb}
-use lib.ListN.{length, getD, take, drop, set, length-append, length-drop, length-map, drop-of-length-le}
-use lib.Seq.{drop-drop, length-take-le, take-all, take-suc-set, take-paste, paste}
+use lib.ListN.{length, getD, take, drop, set, length-append, length-drop, drop-of-length-le}
+use lib.Seq.{take-all, take-suc-set, take-paste, paste}
 use Rattle.names.specs.Names.{judgeOf}
 use Rattle.names.specs.Features.{featuresOf, mostFeatures}
-use Rattle.names.proofs.Laws.{length-features, size-most}
-use Rattle.layouts.specs.Layouts.{headSize, readOf}
-use Rattle.layouts.proofs.Laws.{read-fits, read-roomy}
-use Rattle.layouts.proofs.Layouts.{field-below, length-name, read-good}
+use Rattle.names.proofs.Laws.{size-most}
+use Rattle.layouts.specs.Layouts.{readOf}
+use Rattle.layouts.proofs.Laws.{read-fits}
+use Rattle.layouts.proofs.Layouts.{field-below, read-good}
 use Rattle.frames.specs.Frames.{nameFrame}
 use Rattle.index.specs.Good.{mostNames, mostPostings, largestId}
-use Rattle.postings.specs.Built.{Entry, noEntry, EntryFit, Fit, wordOf, tripleOf, triplesOf, allTriples}
+use Rattle.postings.specs.Built.{Entry, noEntry, EntryFit, Fit, wordOf}
+use Rattle.postings.specs.Keys.{placeSpan, keysOf, keysFrom, allKeys}
+use Rattle.postings.proofs.Keys.{keys-append, length-keys, keys-triples}
 use Rattle.postings.proofs.Entries.{length-entries}
-use Rattle.postings.proofs.Built.{fit-nil, fit-snoc, name-fit, triples-append}
+use Rattle.postings.proofs.Built.{fit-nil, fit-snoc, name-fit}
 use Rattle.lines.specs.Lines.{linesOf, lineLength}
 use Rattle.register.specs.Build.{idIn, nameOf, nextFrom, nextId, judgeLine, entryOf, Taken, takeLines, takenOf, entriesOf}
-use Rattle.register.specs.Steps.{Tables, Roomy, Read}
+use Rattle.register.specs.Steps.{Tables, Read}
 use Rattle.lines.proofs.Lines.{lines-nil, lines-at, line-some}
 use Rattle.register.proofs.Judging.{good-line}
 
@@ -70,43 +72,32 @@ entry-fit count next line z =
     let g = good-line count next line z in
     name-fit (nameOf line) (idIn line) (g .1) (read-fits nameFrame line (g .0) .bytes) (id-most count next line z)
 
--- a good line has two bytes or more for each feature of its name
-pub features-half : (count next : ℕ) (line : List ℕ) → judgeLine count next line ≡ 0 → 2 * length (featuresOf (nameOf line)) ≤ length line
-unfolding headSize
-features-half count next line z =
-    let g = good-line count next line z in
-    let n = length-features (nameOf line) (g .1) in
-    let h = length-name nameFrame line (g .0) refl in
-    omega arith
-
-triples-one : (e : Entry) → allTriples (e ∷ []) ≡ triplesOf e
-unfolding allTriples
-triples-one e = append-nil (triplesOf e)
-
-module _ (es : List Entry) (names triples : List ℕ) (n p : ℕ) (t : Tables es names triples n p) (line : List ℕ) (z : judgeLine n (nextId es) line ≡ 0) where
+module _ (es : List Entry) (names keys : List ℕ) (n p : ℕ) (t : Tables es names keys n p) (line : List ℕ) (z : judgeLine n (nextId es) line ≡ 0) where
   pub tables-room : (n < mostNames) × (p + mostFeatures ≤ mostPostings)
   tables-room =
       let g = good-line n (nextId es) line z .3 in
       let a = length-entries es (t .fit .each) in
       let b = t .count in
       let d = t .sum in
+      let k = keys-triples 0 es in
       (g, omega arith)
 
-  pub tables-snoc : (names₁ triples₁ : List ℕ) (p₁ : ℕ) → n < length names → p + length (featuresOf (nameOf line)) ≤ length triples
+  pub tables-snoc : (names₁ keys₁ : List ℕ) (p₁ : ℕ) → n < length names → p + length (featuresOf (nameOf line)) ≤ length keys
       → p₁ ≡ p + length (featuresOf (nameOf line))
       → names₁ ≡ set names n (idIn line * 256 + length (featuresOf (nameOf line)))
-      → triples₁ ≡ paste triples p (map (λ (f : ℕ). tripleOf (length (featuresOf (nameOf line))) f (idIn line)) (featuresOf (nameOf line))) (length (featuresOf (nameOf line)))
-      → Tables (es ++ (entryOf line ∷ [])) names₁ triples₁ (n + 1) p₁
-  unfolding triplesOf
-  tables-snoc names₁ triples₁ p₁ hn hp ep en et =
+      → keys₁ ≡ paste keys p (map (λ (f : ℕ). f * placeSpan + n) (featuresOf (nameOf line))) (length (featuresOf (nameOf line)))
+      → Tables (es ++ (entryOf line ∷ [])) names₁ keys₁ (n + 1) p₁
+  unfolding keysOf
+  tables-snoc names₁ keys₁ p₁ hn hp ep en et =
       let g = good-line n (nextId es) line z in
       let b = t .count in
       let f = entry-fit n (nextId es) line z in
-      let m = f .most in
-      let k = length-map (featuresOf (nameOf line)) (λ (x : ℕ). tripleOf (length (featuresOf (nameOf line))) x (idIn line)) in
       let u = t .sum in
-      let sum : length (allTriples (es ++ (entryOf line ∷ []))) ≡ length (allTriples es) + length (featuresOf (nameOf line)) =
-      ap length (triples-append es (entryOf line ∷ []) ∙ ap (λ (l : List ℕ). allTriples es ++ l) (triples-one (entryOf line))) ∙ length-append (allTriples es) (triplesOf (entryOf line)) ∙ ap (λ (x : ℕ). length (allTriples es) + x) k in
+      let c : 0 + length es ≡ n = omega arith in
+      let one : allKeys (es ++ (entryOf line ∷ [])) ≡ allKeys es ++ keysOf n (entryOf line) =
+      keys-append 0 es (entryOf line) ∙ ap (λ (i : ℕ). allKeys es ++ keysOf i (entryOf line)) c in
+      let k = length-keys n (entryOf line) in
+      let sum = ap length one ∙ length-append (allKeys es) (keysOf n (entryOf line)) in
       record {
         fit = fit-snoc es (entryOf line) (t .fit) f (let q = g .3 in omega arith) (λ i h. (let q = next-last 0 es i h in let r = g .2 in omega arith));
         count = (let q = length-append es (entryOf line ∷ []) in omega arith);
@@ -118,41 +109,39 @@ module _ (es : List Entry) (names triples : List ℕ) (n p : ℕ) (t : Tables es
         sum = omega arith;
         postings =
             ap₂ (λ (x : ℕ) (l : List ℕ). take x l) ep et
-            ∙ take-paste triples p (triplesOf (entryOf line)) (length (featuresOf (nameOf line))) (omega arith) (omega arith)
-            ∙ ap₂ (λ (x y : List ℕ). x ++ y) (t .postings) (take-all (length (featuresOf (nameOf line))) (triplesOf (entryOf line)) (omega arith))
-            ∙ sym (triples-append es (entryOf line ∷ []) ∙ ap (λ (l : List ℕ). allTriples es ++ l) (triples-one (entryOf line)));
+            ∙ take-paste keys p (keysOf n (entryOf line)) (length (featuresOf (nameOf line))) (omega arith) (omega arith)
+            ∙ ap₂ (λ (x y : List ℕ). x ++ y) (t .postings) (take-all (length (featuresOf (nameOf line))) (keysOf n (entryOf line)) (omega arith))
+            ∙ sym one;
       }
 
 -- ---- what has been reached at a place
 
-pub record Reached (register names triples : List ℕ) (n p next at : ℕ) : Type 0 where
+pub record Reached (register names keys : List ℕ) (n p next at : ℕ) : Type 0 where
   pub es : List Entry
-  pub tables : Tables es names triples n p
+  pub tables : Tables es names keys n p
   pub least : next ≡ nextId es
   pub rest : takeLines es (linesOf (drop at register)) ≡ takenOf register
   pub within : at ≤ length register
-  pub half : 2 * p ≤ at
 
-pub reached-nil : (register names triples : List ℕ) → Reached register names triples 0 0 0 0
-unfolding takenOf nextFrom allTriples
-reached-nil register names triples =
+pub reached-nil : (register names keys : List ℕ) → Reached register names keys 0 0 0 0
+unfolding takenOf nextFrom keysFrom
+reached-nil register names keys =
     record {
       es = [];
       tables = record { fit = fit-nil; count = refl; words = refl; sum = refl; postings = refl };
       least = refl;
       rest = refl;
       within = omega arith;
-      half = omega arith;
     }
 
-pub reached-all : {register names triples : List ℕ} {n p next at : ℕ} → Reached register names triples n p next at → length register ≤ at → Read register names triples 0 0 n p
-reached-all {register} {names} {triples} {n} {p} {next} {at} r h =
+pub reached-all : {register names keys : List ℕ} {n p next at : ℕ} → Reached register names keys n p next at → length register ≤ at → Read register names keys 0 0 n p
+reached-all {register} {names} {keys} {n} {p} {next} {at} r h =
     let e : takeLines (r .es) [] ≡ takenOf register = ap (takeLines (r .es)) (sym (ap linesOf (drop-of-length-le register {i = at} h) ∙ lines-nil)) ∙ r .rest in
     let f = sym (take-none (r .es)) ∙ e in
     record {
       number = ap (λ (x : Taken). x .number) f;
       line = ap (λ (x : Taken). x .line) f;
-      tables = λ q. subst (λ (x : Taken). Tables (x .entries) names triples n p) f (r .tables);
+      tables = λ q. subst (λ (x : Taken). Tables (x .entries) names keys n p) f (r .tables);
     }
 
 -- ---- one turn
@@ -162,14 +151,14 @@ abbrev pub lineAt : List ℕ → ℕ → ℕ → List ℕ
 lineAt register at end = take (end - at) (drop at register)
 
 -- the line at a place that was reached, where it ends, and its number
-pub record Turn (register names triples : List ℕ) (n p next at end number : ℕ) : Type 0 where
-  pub reach : Reached register names triples n p next at
+pub record Turn (register names keys : List ℕ) (n p next at end number : ℕ) : Type 0 where
+  pub reach : Reached register names keys n p next at
   pub more : at < length register
   pub stretch : end ≡ at + lineLength (drop at register)
   pub bound : end ≤ length register
   pub judged : number ≡ judgeLine n next (lineAt register at end)
 
-module _ {register names triples : List ℕ} {n p next at end number : ℕ} (t : Turn register names triples n p next at end number) where
+module _ {register names keys : List ℕ} {n p next at end number : ℕ} (t : Turn register names keys n p next at end number) where
   turn-judged : number ≡ judgeLine (length (t .reach .es)) (nextId (t .reach .es)) (lineAt register at end)
   turn-judged = t .judged ∙ ap₂ (λ (x y : ℕ). judgeLine x y (lineAt register at end)) (t .reach .tables .count) (t .reach .least)
 
@@ -188,8 +177,8 @@ module _ {register names triples : List ℕ} {n p next at end number : ℕ} (t :
       omega arith
 
   -- a bad line ends the reading
-  pub turn-bad : (number ≡ 0 → ⊥) → (names₁ triples₁ : List ℕ) → Read register names₁ triples₁ number (n + 1) 0 0
-  turn-bad b names₁ triples₁ =
+  pub turn-bad : (number ≡ 0 → ⊥) → (names₁ keys₁ : List ℕ) → Read register names₁ keys₁ number (n + 1) 0 0
+  turn-bad b names₁ keys₁ =
       let r = t .reach in
       let l = lines-at register at end (t .more) (t .stretch) in
       let f = sym (take-bad (r .es) (lineAt register at end) (linesOf (drop end register)) (λ q. b (turn-judged ∙ q))) ∙ ap (takeLines (r .es)) (sym l) ∙ r .rest in
@@ -210,42 +199,26 @@ module _ {register names triples : List ℕ} {n p next at end number : ℕ} (t :
     pub turn-id : idIn (lineAt register at end) ≤ largestId
     turn-id = id-most n next (lineAt register at end) (sym (t .judged) ∙ z)
 
-    -- the postings so far and those of the line are within half the bytes
-    pub turn-half : 2 * (p + length (featuresOf (nameOf (lineAt register at end)))) ≤ end
-    turn-half =
-        let h = t .reach .half in
-        let s = t .stretch in
-        let b = t .bound in
-        let d = length-drop at register in
-        let l = length-take-le (end - at) (drop at register) (omega arith) in
-        let f = features-half n next (lineAt register at end) (sym (t .judged) ∙ z) in
-        omega arith
-
-    pub turn-room : (room : ℕ) → Roomy (length register) room → (n < mostNames) × (p + length (featuresOf (nameOf (lineAt register at end))) ≤ room)
-    turn-room room w =
-        let r = tables-room (t .reach .es) names triples n p (t .reach .tables) (lineAt register at end) turn-good in
+    pub turn-room : (n < mostNames) × (p + length (featuresOf (nameOf (lineAt register at end))) ≤ mostPostings)
+    turn-room =
+        let r = tables-room (t .reach .es) names keys n p (t .reach .tables) (lineAt register at end) turn-good in
         let r1 = r .1 in
         let m = size-most (nameOf (lineAt register at end)) in
-        let h = turn-half in
-        let b = t .bound in
-        (r .0, w (p + length (featuresOf (nameOf (lineAt register at end)))) (omega arith) (omega arith))
+        (r .0, omega arith)
 
-    pub turn-more : (names₁ triples₁ : List ℕ) (p₁ id₁ : ℕ) → n < length names → p + length (featuresOf (nameOf (lineAt register at end))) ≤ length triples
+    pub turn-more : (names₁ keys₁ : List ℕ) (p₁ id₁ : ℕ) → n < length names → p + length (featuresOf (nameOf (lineAt register at end))) ≤ length keys
         → id₁ ≡ idIn (lineAt register at end)
         → p₁ ≡ p + length (featuresOf (nameOf (lineAt register at end)))
         → names₁ ≡ set names n (idIn (lineAt register at end) * 256 + length (featuresOf (nameOf (lineAt register at end))))
-        → triples₁
-        ≡ paste triples p (map (λ (f : ℕ). tripleOf (length (featuresOf (nameOf (lineAt register at end)))) f (idIn (lineAt register at end))) (featuresOf (nameOf (lineAt register at end))))
-        (length (featuresOf (nameOf (lineAt register at end))))
-        → Reached register names₁ triples₁ (n + 1) p₁ (id₁ + 1) end
-    turn-more names₁ triples₁ p₁ id₁ hn hp ei ep en et =
+        → keys₁ ≡ paste keys p (map (λ (f : ℕ). f * placeSpan + n) (featuresOf (nameOf (lineAt register at end)))) (length (featuresOf (nameOf (lineAt register at end))))
+        → Reached register names₁ keys₁ (n + 1) p₁ (id₁ + 1) end
+    turn-more names₁ keys₁ p₁ id₁ hn hp ei ep en et =
         let r = t .reach in
         let line = lineAt register at end in
         record {
           es = r .es ++ (entryOf line ∷ []);
-          tables = tables-snoc (r .es) names triples n p (r .tables) line turn-good names₁ triples₁ p₁ hn hp ep en et;
+          tables = tables-snoc (r .es) names keys n p (r .tables) line turn-good names₁ keys₁ p₁ hn hp ep en et;
           least = ap (λ (x : ℕ). x + 1) ei ∙ sym (next-snoc 0 (r .es) (entryOf line));
           rest = sym (take-good (r .es) line (linesOf (drop end register)) (sym turn-judged ∙ z)) ∙ ap (takeLines (r .es)) (sym (lines-at register at end (t .more) (t .stretch))) ∙ r .rest;
           within = t .bound;
-          half = (let h = turn-half in omega arith);
         }

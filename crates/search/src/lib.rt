@@ -16,6 +16,7 @@ ghost use Rattle.search.specs.Method.{sizesEnd};
 ghost use Rattle.search.specs.Tables.{presentAt, startOf, smallKey, filledOf, idsOf, Asked, Sized, answersTable, Stepped, Covered, placesIn};
 ghost use Rattle.search.specs.Answers.{questionOf, over, asColumns, Searched};
 use candidates::Spent;
+use names::FeatureSet;
 
 // What a search answers. specs/Answers.antt sets out the number and the values of each case.
 pub enum Answer {
@@ -31,15 +32,18 @@ pub enum Answer {
     },
 }
 
+// The sizes of names are below this.
+const SIZES_END: usize = FeatureSet::CAPACITY + 1;
+
 // ---- the names
 
 // Their ids in order, at the front of a table.
-fn name_ids(words: &[u32]) -> [u32; 256]
+fn name_ids(words: &[u32]) -> [u32; index::MOST_NAMES]
     requires { ⌜ Good (now words) ⌝ }
     ensures { λ r. ⌜ r ≡ idsOf (now (words .entry)) ++ drop (nameCount (now (words .entry))) (replicate mostNames 0) ⌝ }
 {
     let n = words::name_count(words);
-    let mut table = [0u32; 256];
+    let mut table = [0u32; index::MOST_NAMES];
     let mut i = 0;
     while i < n {
         table[i] = words::name_id(words, i);
@@ -49,12 +53,12 @@ fn name_ids(words: &[u32]) -> [u32; 256]
 }
 
 // Which sizes the names have: 1 at each of them.
-fn sizes_present(words: &[u32]) -> [u32; 67]
+fn sizes_present(words: &[u32]) -> [u32; SIZES_END]
     requires { ⌜ Good (now words) ⌝ }
     ensures { λ r. ⌜ r ≡ tabulate (presentAt (now (words .entry))) sizesEnd ⌝ }
 {
     let n = words::name_count(words);
-    let mut table = [0u32; 67];
+    let mut table = [0u32; SIZES_END];
     let mut i = 0;
     while i < n {
         let size = words::name_size(words, i) as usize;
@@ -115,7 +119,7 @@ fn order_lists(
     if filled < least {
         return false;
     }
-    let mut spare = [0u64; 66];
+    let mut spare = [0u64; FeatureSet::CAPACITY];
     sorting::sort(keys, &mut spare[..x]);
     true
 }
@@ -134,8 +138,8 @@ fn one_size(
     ensures { λ r. ⌜ Sized (now (words .entry)) size (now (features .entry)) least budget (now (answers .entry)) (now (answers .exit)) (r .past) (r .touches) ⌝ }
 {
     let x = features.len();
-    let mut starts = [0usize; 66];
-    let mut keys = [0u64; 66];
+    let mut starts = [0usize; FeatureSet::CAPACITY];
+    let mut keys = [0u64; FeatureSet::CAPACITY];
     if !order_lists(words, features, size, least, &mut starts, &mut keys[..x]) {
         return Spent {
             past: false,
@@ -198,7 +202,7 @@ fn all_sizes(
     let present = sizes_present(words);
     let mut touches = 0;
     let mut y = 0;
-    while y < 67 {
+    while y < SIZES_END {
         let spent = size_step(
             words,
             ids,
@@ -279,7 +283,7 @@ fn write_rows(
 struct Cover {
     past: bool,
     touches: usize,
-    answers: [u32; 256],
+    answers: [u32; index::MOST_NAMES],
 }
 
 // The query's features sorted once, and all sizes.
@@ -298,9 +302,9 @@ fn cover_sizes(
     let set = names::features(query);
     let x = set.len;
     let mut features = set.items;
-    let mut spare = [0u64; 66];
+    let mut spare = [0u64; FeatureSet::CAPACITY];
     sorting::sort(&mut features[..x], &mut spare[..x]);
-    let mut answers = [0u32; 256];
+    let mut answers = [0u32; index::MOST_NAMES];
     let spent = all_sizes(
         words,
         ids,

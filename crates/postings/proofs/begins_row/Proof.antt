@@ -1,13 +1,16 @@
--- `begins_row` meets its contract: the two cases of the definition.
+-- `begins_row` meets its contract: the two cases of the definition, and two postings of one row have one row key.
 use mathlib.Core.Path.{_≡_, refl, sym, ap, ap₂, _∙_}
-use Prim.Native.Nat.{ℕ, suc, _-_, _/_}
+use mathlib.Core.List.{List, [], _∷_, _++_, map}
+use Prim.Native.Nat.{ℕ, suc, _+_, _*_, _-_, _/_, _%_, _≤_, _<_}
 use native.Mathlib.Omega.{arith}
-use borrow.Author.Needs.{needs}
-use lib.ListN.{getD}
 use mathlib.Core.Bool.{Bool, true, not}
+use lib.ListN.{length, getD}
 use lib.Dec.{eqb}
 use Rattle.postings.specs.Built.{idSpan}
+use Rattle.postings.specs.Keys.{triplesAt}
 use Rattle.postings.specs.Steps.{begins}
+use Rattle.postings.proofs.Keys.{same-row}
+use borrow.Author.Needs.{needs}
 use Rattle.postings.proofs.begins_row.Statement.{statement}
 use Rattle.postings.proofs.begins_row.Tie as tie
 
@@ -15,37 +18,56 @@ returns : tie.Need-returns
 unfolding begins
 returns c = rw (c .if1 .taken)
 
-sub-result : tie.Need-sub-result
-sub-result c = search needs
+sub-run-key : tie.Need-sub-run-key
+sub-run-key c = search needs
 
-mul-result : tie.Need-mul-result
-mul-result c = search needs
+mul-run-key : tie.Need-mul-run-key
+mul-run-key c = search needs
 
-shared-slice-read-result : tie.Need-shared-slice-read-result
-shared-slice-read-result c = search needs
+shared-slice-read-run-key : tie.Need-shared-slice-read-run-key
+shared-slice-read-run-key c = search needs
 
-mul-result-2 : tie.Need-mul-result-2
-mul-result-2 c = search needs
+run-key-requires : tie.Need-run-key-requires
+run-key-requires c κs =
+    let b = c .before .before .before .before in
+    let h = b .pre .0 in
+    let n = c .before .if1 .left in
+    b .pre .1 .named (b .args .i - 1) (omega arith)
 
-shared-slice-read-result-2 : tie.Need-shared-slice-read-result-2
-shared-slice-read-result-2 c = search needs
+mul-run-key-2 : tie.Need-mul-run-key-2
+mul-run-key-2 c = search needs
+
+shared-slice-read-run-key-2 : tie.Need-shared-slice-read-run-key-2
+shared-slice-read-run-key-2 c = search needs
+
+run-key-requires-2 : tie.Need-run-key-requires-2
+run-key-requires-2 c κs =
+    let b = c .before .before .before .before .before .before in
+    b .pre .1 .named (b .args .i) (b .pre .0)
 
 returns-2 : tie.Need-returns-2
 unfolding begins
 returns-2 c =
-    let a = c .before .before .before .args in
-    let n = c .before .before .if1 .left in
+    let b = c .before .before .before .before .before .before .before in
+    let n = c .before .before .before .before .if1 .left in
+    let a = b .args in
+    let h = b .pre .0 in
     let e : a .i ≡ suc (a .i - 1) = omega arith in
-    sym (ap (begins (a .keys .now)) e ∙ ap (λ (k : ℕ). not (eqb (getD (a .keys .now) (a .i - 1) 0 / idSpan) (getD (a .keys .now) k 0 / idSpan))) (sym e))
+    let ts = triplesAt (a .names .now) (a .keys .now) in
+    ap₂ (λ (x y : ℕ). not (eqb x y)) (c .before .before .run-key .ensures) (c .run-key2 .ensures)
+    ∙ ap not (same-row (b .pre .1) (a .i - 1) (a .i) (omega arith) h)
+    ∙ sym (ap (begins ts) e ∙ ap (λ (k : ℕ). not (eqb (getD ts (a .i - 1) 0 / idSpan) (getD ts k 0 / idSpan))) (sym e))
 
 pub begins-row-spec : {M : Type 1} → statement M
 begins-row-spec =
     tie.close
     (tie.spec
     returns
-    sub-result
-    mul-result
-    shared-slice-read-result
-    mul-result-2
-    shared-slice-read-result-2
+    sub-run-key
+    mul-run-key
+    shared-slice-read-run-key
+    run-key-requires
+    mul-run-key-2
+    shared-slice-read-run-key-2
+    run-key-requires-2
     returns-2)

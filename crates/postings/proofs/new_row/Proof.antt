@@ -1,24 +1,34 @@
--- `new_row` meets its contract: four stores one behind the other.
+-- `new_row` meets its contract: four stores one behind the other, where there is room for them.
 use mathlib.Core.Path.{_≡_, refl, sym, ap, ap₂, _∙_}
-use Prim.Native.Nat.{ℕ, _+_, _*_, _%_, _≤_, _<_, _-_}
+use mathlib.Core.List.{List, [], _∷_, _++_, map}
+use Prim.Native.Nat.{ℕ, _+_, _*_, _-_, _/_, _%_, _≤_, _<_}
 use native.Mathlib.Omega.{arith}
-use borrow.Author.Needs.{needs}
+use borrow.Author.Tests.{le-leb, lt-leb}
 use lib.ListN.{length, length-set}
+use Rattle.words.specs.Words.{rowWidth}
+use Rattle.postings.specs.Steps.{newRow}
 use Rattle.postings.proofs.Over.{four-sets}
+use borrow.Author.Needs.{needs}
 use Rattle.postings.proofs.new_row.Statement.{statement}
 use Rattle.postings.proofs.new_row.Tie as tie
 
-cast-out : tie.Need-cast-out
-cast-out c = search needs
+mul-at : tie.Need-mul-at
+mul-at c = search needs
+
+add-if1 : tie.Need-add-if1
+add-if1 c = search needs
+
+returns : tie.Need-returns
+unfolding newRow
+returns c =
+    let a = c .before .args in
+    rw (lt-leb (rowWidth * a .d + 4) (length (a .out .now)) (c .if1 .taken))
 
 mul-out : tie.Need-mul-out
 mul-out c = search needs
 
 slice-write-out : tie.Need-slice-write-out
 slice-write-out c = search needs
-
-cast-out-2 : tie.Need-cast-out-2
-cast-out-2 c = search needs
 
 add-out : tie.Need-add-out
 add-out c = search needs
@@ -50,17 +60,21 @@ slice-write-out-4 c = simp length-set (omega arith)
 same-length : tie.Need-same-length
 same-length c = search needs
 
-returns : tie.Need-returns
-returns c = four-sets (c .args .out .now) (c .args .at) _ _ _ _
+returns-2 : tie.Need-returns-2
+unfolding newRow
+returns-2 c =
+    let a = c .before .args in
+    rw (le-leb (rowWidth * a .d + 4) (length (a .out .now)) (omega arith)) (four-sets (a .out .now) (rowWidth * a .d) _ _ _ _)
 
 pub new-row-spec : {M : Type 1} → statement M
 new-row-spec =
     tie.close
     (tie.spec
-    cast-out
+    mul-at
+    add-if1
+    returns
     mul-out
     slice-write-out
-    cast-out-2
     add-out
     mul-out-2
     slice-write-out-2
@@ -71,4 +85,4 @@ new-row-spec =
     mul-out-4
     slice-write-out-4
     same-length
-    returns)
+    returns-2)

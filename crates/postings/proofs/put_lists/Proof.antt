@@ -1,35 +1,38 @@
 -- `put_lists` meets its contract: after i turns, the ids of the first i postings are there.
 use mathlib.Core.Path.{_≡_, refl, sym, ap, ap₂, _∙_}
-use mathlib.Core.List.{List, map}
-use Prim.Native.Nat.{ℕ, _+_, _*_, _%_, _≤_, _<_, _-_}
+use mathlib.Core.List.{List, [], _∷_, _++_, map}
+use Prim.Native.Nat.{ℕ, suc, _+_, _*_, _-_, _/_, _%_, _≤_, _<_}
 use native.Mathlib.Omega.{arith}
-use lib.ListN.{length, getD, set, length-set, length-map, List·getD-map}
+use lib.ListN.{length, getD, set, length-set, length-map}
 use Rattle.laws.proofs.Tables.{tableOver, over-nil, over-step}
-use Rattle.postings.specs.Built.{idSpan}
+use Rattle.postings.specs.Keys.{idAt}
 use Rattle.postings.proofs.Over.{over-all}
+use Rattle.postings.proofs.Keys.{getD-map-lt}
 use Rattle.postings.proofs.put_lists.Statement.{statement}
 use Rattle.postings.proofs.put_lists.Tie as tie
 
 abbrev Inv-loop : tie.InvT-loop
-Inv-loop keys out₀ i₀ out i = (i ≤ length keys) × (length out ≡ length out₀) × (out ≡ tableOver (λ (k : ℕ). getD keys k 0 % idSpan) i out₀)
+Inv-loop names keys out₀ i₀ out i = (i ≤ length keys) × (length out ≡ length out₀) × (out ≡ tableOver (λ (k : ℕ). idAt names (getD keys k 0)) i out₀)
 
 abbrev μ-loop : tie.MeasureT-loop
-μ-loop keys out₀ i₀ out i = length keys - i
+μ-loop names keys out₀ i₀ out i = length keys - i
 
 loop-holds : tie.Need-loop-holds Inv-loop μ-loop
-loop-holds c = (omega arith, refl, over-nil (λ (k : ℕ). getD (c .args .keys .now) k 0 % idSpan) (c .args .out .now))
+loop-holds c = let a = c .before .before .before .args in (omega arith, refl, over-nil (λ (k : ℕ). idAt (a .names .now) (getD (a .keys .now) k 0)) (a .out .now))
+
+mul-word-at : tie.Need-mul-word-at Inv-loop μ-loop
+mul-word-at c = omega arith
+
+shared-slice-read-word-at : tie.Need-shared-slice-read-word-at Inv-loop μ-loop
+shared-slice-read-word-at c = omega arith
+
+word-at-requires : tie.Need-word-at-requires Inv-loop μ-loop
+word-at-requires c κs =
+    let b = c .before .before .before .before .before .before in
+    b .pre .1 .named (c .before .before .loop .i) (c .before .loop-test .taken)
 
 mul-out : tie.Need-mul-out Inv-loop μ-loop
 mul-out c = omega arith
-
-shared-slice-read-out : tie.Need-shared-slice-read-out Inv-loop μ-loop
-shared-slice-read-out c = omega arith
-
-cast-out : tie.Need-cast-out Inv-loop μ-loop
-cast-out c = record { fits = omega arith }
-
-mul-out-2 : tie.Need-mul-out-2 Inv-loop μ-loop
-mul-out-2 c = omega arith
 
 slice-write-out : tie.Need-slice-write-out Inv-loop μ-loop
 slice-write-out c = omega arith
@@ -42,13 +45,14 @@ loop-less c = omega arith
 
 loop-again : tie.Need-loop-again Inv-loop μ-loop
 loop-again c =
-    let l = c .before .before in
-    let a = l .before .args in
-    let p = l .before .pre in
-    let t = c .before .loop-test .taken in (
+    let l = c .before .before .before .loop in
+    let b = c .before .before .before .before .before .before .before in
+    let a = b .args in
+    let p = b .pre .0 in
+    let t = c .before .before .loop-test .taken in (
       omega arith,
-      simp length-set (l .loop .inv .1),
-      ap (λ (t : List ℕ). set t (l .loop .i) (getD (a .keys .now) (l .loop .i) 0 % idSpan)) (l .loop .inv .2) ∙ over-step (λ (k : ℕ). getD (a .keys .now) k 0 % idSpan) (l .loop .i) (a .out .now) (omega arith),
+      simp length-set (l .inv .1),
+      ap₂ (λ (o : List ℕ) (v : ℕ). set o (l .i) (v / 256)) (l .inv .2) (c .word-at .ensures) ∙ over-step (λ (k : ℕ). idAt (a .names .now) (getD (a .keys .now) k 0)) (l .i) (a .out .now) (omega arith),
     )
 
 same-length : tie.Need-same-length Inv-loop μ-loop
@@ -56,14 +60,15 @@ same-length c = c .before .loop .inv .1
 
 returns : tie.Need-returns Inv-loop μ-loop
 returns c =
-    let l = c .before in
-    let a = l .before .args in
-    let p = l .before .pre in
-    let e : l .loop .i ≡ length (a .out .now) = omega arith in
-    l .loop .inv .2
-    ∙ ap (λ (n : ℕ). tableOver (λ (k : ℕ). getD (a .keys .now) k 0 % idSpan) n (a .out .now)) e
-    ∙ over-all (λ (k : ℕ). getD (a .keys .now) k 0 % idSpan) (a .out .now) (map (λ (k : ℕ). k % idSpan) (a .keys .now)) (0 % idSpan)
-    (length-map (a .keys .now) (λ (k : ℕ). k % idSpan) ∙ sym p) (λ k h. List·getD-map (λ (x : ℕ). x % idSpan) (a .keys .now) k 0)
+    let l = c .before .loop in
+    let b = c .before .before .before .before .before in
+    let a = b .args in
+    let p = b .pre .0 in
+    let e : l .i ≡ length (a .out .now) = omega arith in
+    l .inv .2
+    ∙ ap (λ (n : ℕ). tableOver (λ (k : ℕ). idAt (a .names .now) (getD (a .keys .now) k 0)) n (a .out .now)) e
+    ∙ over-all (λ (k : ℕ). idAt (a .names .now) (getD (a .keys .now) k 0)) (a .out .now) (map (idAt (a .names .now)) (a .keys .now)) 0
+    (length-map (a .keys .now) (idAt (a .names .now)) ∙ sym p) (λ k h. getD-map-lt (idAt (a .names .now)) (a .keys .now) k 0 0 (omega arith))
 
 pub put-lists-spec : {M : Type 1} → statement M
 put-lists-spec =
@@ -72,10 +77,10 @@ put-lists-spec =
     Inv-loop
     μ-loop
     loop-holds
+    mul-word-at
+    shared-slice-read-word-at
+    word-at-requires
     mul-out
-    shared-slice-read-out
-    cast-out
-    mul-out-2
     slice-write-out
     add-i
     loop-less

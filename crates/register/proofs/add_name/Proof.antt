@@ -1,53 +1,38 @@
 -- `add_name` meets its contract: a good name has at most 66 features, and each fits 32 bits.
 use mathlib.Core.Path.{_≡_, refl, sym, ap, ap₂, _∙_}
-use mathlib.Core.List.{List, map}
-use Prim.Native.Nat.{ℕ, _+_, _*_, _%_, _≤_, _<_, _-_}
+use mathlib.Core.List.{List, _++_, map}
+use Prim.Native.Nat.{ℕ, _+_, _*_, _≤_, _<_, _-_}
 use native.Mathlib.Omega.{arith}
-use borrow.Author.Needs.{needs}
 use lib.ListN.{length, getD, set, replicate, length-append, List·getD-append}
 use lib.Seq.{paste}
 use Rattle.names.specs.Features.{featuresOf, mostFeatures}
 use Rattle.names.specs.declared.FeatureSet.{FeatureSet}
 use Rattle.names.proofs.Laws.{size-most, feature-fits}
 use Rattle.words.specs.Words.{featureSpan}
-use Rattle.postings.specs.Built.{tripleOf}
+use Rattle.postings.specs.Keys.{placeSpan}
 use Rattle.register.proofs.Pasted.{paste-front}
+use borrow.Author.Needs.{needs}
 use Rattle.register.proofs.add_name.Statement.{statement}
 use Rattle.register.proofs.add_name.Tie as tie
 
-features-requires : tie.Need-features-requires
-features-requires c κs = search needs
+-- the set of features: how many, and what stands in it
+made : (c : tie.After-features-good)
+    → let f = featuresOf (c .before .before .before .before .args .name .now) in (c .features-good .result .len ≡ length f) × (c .features-good .result .items ≡ f ++ replicate (mostFeatures - length f) 0) × (length f ≤ mostFeatures)
+made c =
+    let y = c .features-good .ensures in
+    (ap (λ (x : FeatureSet). x .len) y, ap (λ (x : FeatureSet). x .items) y, size-most (c .before .before .before .before .args .name .now))
+
+features-good-requires : tie.Need-features-good-requires
+features-good-requires c κs = search needs
 
 mul-names : tie.Need-mul-names
 mul-names c = search needs
 
 cast-names : tie.Need-cast-names
-cast-names c =
-    let y = c .features .ensures in
-    let b = c .before .before .before .before in
-    let s = b .args .name .now in
-    let f = featuresOf s in
-    let e : c .features .result .len ≡ length f = ap (λ (x : FeatureSet). x .len) y in
-    let i = ap (λ (x : FeatureSet). x .items) y in
-    let p = b .pre in
-    let p1 = p .1 in
-    let p3 = p .3 in
-    let m = size-most s in
-    record { fits = omega arith }
+cast-names c = let s = made c in let n = s .0 in let m = s .2 in record { fits = omega arith }
 
 add-names : tie.Need-add-names
-add-names c =
-    let y = c .features .ensures in
-    let b = c .before .before .before .before in
-    let s = b .args .name .now in
-    let f = featuresOf s in
-    let e : c .features .result .len ≡ length f = ap (λ (x : FeatureSet). x .len) y in
-    let i = ap (λ (x : FeatureSet). x .items) y in
-    let p = b .pre in
-    let p1 = p .1 in
-    let p3 = p .3 in
-    let m = size-most s in
-    record { fits = omega arith }
+add-names c = let s = made c in let n = s .0 in let m = s .2 in let i = c .before .before .before .before .pre .1 in record { fits = omega arith }
 
 mul-names-2 : tie.Need-mul-names-2
 mul-names-2 c = search needs
@@ -55,43 +40,27 @@ mul-names-2 c = search needs
 slice-write-names : tie.Need-slice-write-names
 slice-write-names c = search needs
 
-put-triples-requires : tie.Need-put-triples-requires
-put-triples-requires c κs =
-    let y = c .before .before .before .before .features .ensures in
+put-keys-requires : tie.Need-put-keys-requires
+put-keys-requires c κs =
+    let s = made (c .before .before .before .before) in
     let b = c .before .before .before .before .before .before .before .before in
-    let s = b .args .name .now in
-    let f = featuresOf s in
-    let e : c .before .before .before .before .features .result .len ≡ length f = ap (λ (x : FeatureSet). x .len) y in
-    let i = ap (λ (x : FeatureSet). x .items) y in
-    let p = b .pre in
-    let p1 = p .1 in
-    let p3 = p .3 in
-    let m = size-most s in
-    let l = ap length i in
-    let u = length-append f (replicate (mostFeatures - length f) 0) in (
-      omega arith,
+    let f = featuresOf (b .args .name .now) in
+    let n = s .0 in
+    let m = s .2 in
+    let l = ap length (s .1) ∙ length-append f (replicate (mostFeatures - length f) 0) in
+    let few = b .pre .2 in
+    let room = b .pre .4 in (
       omega arith,
       λ j h.
-          (let v = ap (λ (x : List ℕ). getD x j 0) i ∙ List·getD-append f (replicate (mostFeatures - length f) 0) 0 j (omega arith) in
-          let w = feature-fits s (λ x. (let q = c .before .before .before .before .before .before .before .shared-slice-known .given x in omega arith)) j in
+          (let v = ap (λ (x : List ℕ). getD x j 0) (s .1) ∙ List·getD-append f (replicate (mostFeatures - length f) 0) 0 j (omega arith) in
+          let w = feature-fits (b .args .name .now) (λ x. (let q = c .before .before .before .before .before .before .before .shared-slice-known .given x in omega arith)) j in
           omega arith),
       omega arith,
       omega arith,
     )
 
 add-result : tie.Need-add-result
-add-result c =
-    let y = c .before .before .before .before .before .before .before .features .ensures in
-    let b = c .before .before .before .before .before .before .before .before .before .before .before in
-    let s = b .args .name .now in
-    let f = featuresOf s in
-    let e : c .before .before .before .before .before .before .before .features .result .len ≡ length f = ap (λ (x : FeatureSet). x .len) y in
-    let i = ap (λ (x : FeatureSet). x .items) y in
-    let p = b .pre in
-    let p1 = p .1 in
-    let p3 = p .3 in
-    let m = size-most s in
-    record { fits = omega arith }
+add-result c = let s = made (c .before .before .before .before .before .before .before) in let n = s .0 in let m = s .2 in let r = c .before .before .before .before .before .before .before .before .before .before .before .pre .4 in record { fits = omega arith }
 
 same-length : tie.Need-same-length
 same-length c = search needs
@@ -101,35 +70,27 @@ same-length-2 c = search needs
 
 returns : tie.Need-returns
 returns c =
-    let y = c .before .before .before .before .before .before .before .features .ensures in
-    let b = c .before .before .before .before .before .before .before .before .before .before .before in
-    let s = b .args .name .now in
-    let f = featuresOf s in
-    let e : c .before .before .before .before .before .before .before .features .result .len ≡ length f = ap (λ (x : FeatureSet). x .len) y in
-    let i = ap (λ (x : FeatureSet). x .items) y in
-    let p = b .pre in
-    let p1 = p .1 in
-    let p3 = p .3 in
-    let m = size-most s in
-    let d = b .args .triples .now in (
-      ap (λ (n : ℕ). b .args .p + n) e,
-      ap (λ (n : ℕ). set (b .args .names .now) (b .args .n) (b .args .id * 256 + n)) e,
-      c .before .before .put-triples .ensures
-          ∙ ap₂ (λ (l : List ℕ) (n : ℕ). paste d (b .args .p) (map (λ (x : ℕ). tripleOf n x (b .args .id)) l) n) i e
-          ∙ paste-front (λ (x : ℕ). tripleOf (length f) x (b .args .id)) f (replicate (mostFeatures - length f) 0) d (b .args .p),
+    let s = made (c .before .before .before .before .before .before .before) in
+    let a = c .before .before .before .before .before .before .before .before .before .before .before .args in
+    let f = featuresOf (a .name .now) in (
+      ap (λ (n : ℕ). a .p + n) (s .0),
+      ap (λ (n : ℕ). set (a .names .now) (a .n) (a .id * 256 + n)) (s .0),
+      c .before .before .put-keys .ensures
+          ∙ ap₂ (λ (l : List ℕ) (n : ℕ). paste (a .keys .now) (a .p) (map (λ (x : ℕ). x * placeSpan + a .n) l) n) (s .1) (s .0)
+          ∙ paste-front (λ (x : ℕ). x * placeSpan + a .n) f (replicate (mostFeatures - length f) 0) (a .keys .now) (a .p),
     )
 
 pub add-name-spec : {M : Type 1} → statement M
 add-name-spec =
     tie.close
     (tie.spec
-    features-requires
+    features-good-requires
     mul-names
     cast-names
     add-names
     mul-names-2
     slice-write-names
-    put-triples-requires
+    put-keys-requires
     add-result
     same-length
     same-length-2

@@ -9,30 +9,30 @@ use lib.ListN.{length, set}
 use lib.Seq.{length-take-le, paste}
 use Rattle.names.specs.Names.{judgeOf}
 use Rattle.names.specs.Features.{featuresOf}
-use Rattle.index.specs.Good.{mostNames}
-use Rattle.postings.specs.Built.{tripleOf}
+use Rattle.index.specs.Good.{mostNames, mostPostings}
+use Rattle.postings.specs.Keys.{placeSpan}
 use Rattle.lines.proofs.Lines.{line-ends}
 use Rattle.register.proofs.Taking.{Reached, Turn, reached-nil, reached-all, turn-less, turn-few, turn-bad, turn-name, turn-id, turn-room, turn-more}
 use Rattle.register.proofs.take_lines.Statement.{statement}
 use Rattle.register.proofs.take_lines.Tie as tie
 
 abbrev Inv-loop : tie.InvT-loop
-Inv-loop register name₀ names₀ triples₀ n₀ p₀ next₀ at₀ name names triples n p next at =
-    (length name ≡ 255) × (length names ≡ mostNames) × (length triples ≡ length triples₀) × Reached register names triples n p next at
+Inv-loop register name₀ names₀ keys₀ n₀ p₀ next₀ at₀ name names keys n p next at =
+    (length name ≡ 255) × (length names ≡ mostNames) × (length keys ≡ mostPostings) × Reached register names keys n p next at
 
 abbrev μ-loop : tie.MeasureT-loop
-μ-loop register name₀ names₀ triples₀ n₀ p₀ next₀ at₀ name names triples n p next at = length register - at
+μ-loop register name₀ names₀ keys₀ n₀ p₀ next₀ at₀ name names keys n p next at = length register - at
 
 -- the turn, where its line was judged
 turn : (c : tie.After-judge-line Inv-loop μ-loop)
-    → let l = c .before .before .before .before .before .loop in Turn (c .before .before .before .before .before .before .before .before .before .before .args .register .now) (l .names) (l .triples) (l .n) (l .p) (l .next) (l .at) (c .before .before .before .line-end .result) (c .judge-line .result .number)
+    → let l = c .before .before .before .before .before .loop in Turn (c .before .before .before .before .before .before .before .before .before .before .args .register .now) (l .names) (l .keys) (l .n) (l .p) (l .next) (l .at) (c .before .before .before .line-end .result) (c .judge-line .result .number)
 turn c =
     let l = c .before .before .before .before .before .loop in
     let e = line-ends (c .before .before .before .before .before .before .before .before .before .before .args .register .now) (l .at) (c .before .before .before .line-end .result) (c .before .before .before .line-end .ensures) (l .inv .3 .within) in
     record { reach = l .inv .3; more = omega arith; stretch = e .0; bound = e .1; judged = c .judge-line .ensures .number }
 
 loop-holds : tie.Need-loop-holds Inv-loop μ-loop
-loop-holds c = let b = c .before .before .before .before in (b .pre .0, b .pre .1, refl, reached-nil (b .args .register .now) (b .args .names .now) (b .args .triples .now))
+loop-holds c = let b = c .before .before .before .before in (b .pre .0, b .pre .1, b .pre .2, reached-nil (b .args .register .now) (b .args .names .now) (b .args .keys .now))
 
 line-end-requires : tie.Need-line-end-requires Inv-loop μ-loop
 line-end-requires c κs = search needs
@@ -67,10 +67,10 @@ same-length-2 : tie.Need-same-length-2 Inv-loop μ-loop
 same-length-2 c = c .before .before .before .before .before .before .before .before .before .loop .inv .1 ∙ sym (c .before .before .before .before .before .before .before .before .before .before .before .before .before .before .pre .1)
 
 same-length-3 : tie.Need-same-length-3 Inv-loop μ-loop
-same-length-3 c = c .before .before .before .before .before .before .before .before .before .loop .inv .2
+same-length-3 c = c .before .before .before .before .before .before .before .before .before .loop .inv .2 ∙ sym (c .before .before .before .before .before .before .before .before .before .before .before .before .before .before .pre .2)
 
 returns : tie.Need-returns Inv-loop μ-loop
-returns c = let l = c .before .before .before .before .before .before .before .before .before .loop in turn-bad (turn (c .before .before .before .before)) (c .if1 .taken) (l .names) (l .triples)
+returns c = let l = c .before .before .before .before .before .before .before .before .before .loop in turn-bad (turn (c .before .before .before .before)) (c .if1 .taken) (l .names) (l .keys)
 
 slice-reshare-prefix-add-name : tie.Need-slice-reshare-prefix-add-name Inv-loop μ-loop
 slice-reshare-prefix-add-name c = c .before .before .before .before .judge-line .ensures .short (c .if1 .left)
@@ -85,7 +85,7 @@ add-name-requires c κs =
     let t = turn (c .before .before .before .before .before .before .before) in
     let z = c .before .before .before .if1 .left in
     let b = c .before .before .before .before .before .before .before .before .before .before .before .before .before .before .before .before .before in
-    let room = turn-room t z (length (b .args .triples .now)) (b .pre .2) in
+    let room = turn-room t z in
     let small = room .0 in
     let wide = room .1 in
     let i = h .id z in
@@ -93,7 +93,7 @@ add-name-requires c κs =
     let ln = l .inv .1 in
     let lt = l .inv .2 in
     let name = ap (λ (s : List ℕ). length (featuresOf s)) (h .name z) in
-    (ap judgeOf (h .name z) ∙ turn-name t z, omega arith, omega arith, omega arith)
+    (ap judgeOf (h .name z) ∙ turn-name t z, omega arith, small, omega arith, omega arith)
 
 add-n : tie.Need-add-n Inv-loop μ-loop
 add-n c = let f = turn-few (turn (c .before .before .before .before .before .before .before .before .before .before .before .before)) in record { fits = omega arith }
@@ -116,7 +116,7 @@ loop-again c =
     let t = turn (c .before .before .before .before .before .before .before .before .before .before .before .before) in
     let z = c .before .before .before .before .before .before .before .before .if1 .left in
     let b = c .before .before .before .before .before .before .before .before .before .before .before .before .before .before .before .before .before .before .before .before .before .before in
-    let room = turn-room t z (length (b .args .triples .now)) (b .pre .2) in
+    let room = turn-room t z in
     let small = room .0 in
     let wide = room .1 in
     let ln = l .inv .1 in
@@ -129,7 +129,7 @@ loop-again c =
       turn-more t z (x .last .1 .1 .0) (x .last .1 .1 .1 .1 .0) (x .result) (y .result .id) (omega arith) (omega arith) i
           (x .ensures .0 ∙ ap (λ (s : List ℕ). l .p + length (featuresOf s)) name)
           (x .ensures .1 ∙ ap₂ (λ (s : List ℕ) (k : ℕ). set (l .names) (l .n) (k * 256 + length (featuresOf s))) name i)
-          (x .ensures .2 ∙ ap₂ (λ (s : List ℕ) (k : ℕ). paste (l .triples) (l .p) (map (λ (f : ℕ). tripleOf (length (featuresOf s)) f k) (featuresOf s)) (length (featuresOf s))) name i),
+          (x .ensures .2 ∙ ap (λ (s : List ℕ). paste (l .keys) (l .p) (map (λ (f : ℕ). f * placeSpan + l .n) (featuresOf s)) (length (featuresOf s))) name),
     )
 
 same-length-4 : tie.Need-same-length-4 Inv-loop μ-loop
@@ -139,7 +139,7 @@ same-length-5 : tie.Need-same-length-5 Inv-loop μ-loop
 same-length-5 c = c .before .loop .inv .1 ∙ sym (c .before .before .before .before .before .before .pre .1)
 
 same-length-6 : tie.Need-same-length-6 Inv-loop μ-loop
-same-length-6 c = c .before .loop .inv .2
+same-length-6 c = c .before .loop .inv .2 ∙ sym (c .before .before .before .before .before .before .pre .2)
 
 returns-2 : tie.Need-returns-2 Inv-loop μ-loop
 returns-2 c = reached-all (c .before .loop .inv .3) (omega arith)

@@ -1,0 +1,4 @@
+pub mod Picks
+pub mod Sorted
+pub mod Parts
+pub mod Ordered
