@@ -3,25 +3,22 @@
 use mathlib.Core.Path.{_≡_, refl, sym, ap, ap₂, subst, _∙_}
 use mathlib.Core.Logic.{⊎-elim}
 use mathlib.Core.Bool.{Bool, true, false, cond}
-use mathlib.Core.List.{List, [], _∷_, _++_, map}
-use Prim.Native.Nat.{ℕ, zero, suc, _+_, _-_, _≤_, _<_, min}
+use mathlib.Core.List.{List, _++_, map}
+use Prim.Native.Nat.{ℕ, zero, suc, _+_, _-_, _≤_, _<_}
 use native.Mathlib.Omega.{arith}
 use lib.ListN.{length, getD, take, drop, length-append, length-map, List·getD-append}
 use lib.Seq.{take-append-seam}
-use lib.Dec.{eqb, leb}
-use borrow.Author.Tests.{le-leb}
-use Rattle.laws.specs.Lists.{member}
+use lib.Dec.{eqb}
 use Rattle.laws.proofs.Members.{member-at}
 use Rattle.laws.proofs.Order.{eq-or-ne}
 use Rattle.names.specs.Features.{featuresOf}
 use Rattle.names.proofs.Laws.{size-most}
 use Rattle.layouts.specs.declared.Reading.{Reading}
-use Rattle.layouts.specs.Layouts.{isFrame, fieldsIn, nameIn, readOf, bufferOf, acceptedAs, refusedWith, longestName}
+use Rattle.layouts.specs.Layouts.{isFrame, nameIn, readOf, bufferOf, acceptedAs, refusedWith, longestName}
 use Rattle.layouts.proofs.Laws.{read-roomy}
 use Rattle.frames.specs.declared.QueryRead.{QueryRead}
 use Rattle.frames.specs.Frames.{queryFrame, queryOut}
 use Rattle.words.specs.Words.{nameCount, nameId, nameSize}
-use Rattle.index.specs.Good.{Good}
 use Rattle.index.proofs.Laws.{good-name-within}
 use Rattle.search.specs.Method.{sharedWith, answersOf}
 use Rattle.search.specs.Answers.{numberIn, rowsIn, searchOf, Columns, roomOf, columnsOf, over, columnsOver, placesGiven, Searched}

@@ -14,7 +14,6 @@ use Rattle.laws.proofs.Lists.{count-append}
 use Rattle.laws.proofs.Members.{or-cases, or-right, each-nil, each-cons, each-append}
 use Rattle.laws.proofs.Images.{each-tabulate}
 use Rattle.laws.proofs.Order.{eq-or-ne}
-use Rattle.names.specs.Features.{featuresOf}
 use Rattle.hex.specs.Lines.{digitOf, placeIn, valueOf, hexOf, hexLine, bytesOf}
 use Rattle.hex.proofs.Lines.{last-feed}
 use Rattle.layouts.specs.Layouts.{isFrame, lineOf, fieldBytes, nameBytes}
@@ -26,7 +25,7 @@ use Rattle.search.specs.Answers.{Columns}
 use Rattle.search.specs.declared.Answer.{Answer}
 use Rattle.search.specs.declared.Answer.the-variants.{Found, Refused}
 use Rattle.answers.specs.declared.Opened.{Opened}
-use Rattle.answers.specs.Output.{rowLine, endLine, refusalLine, rowText, rowsText, foundText, answerText, queryIn, searchFor, columnsFor, answerOf, endsAnswer, answerLines, queriesOf, openedOf, openWords, programWords, answersText, outputOf}
+use Rattle.answers.specs.Output.{rowLine, endLine, refusalLine, rowText, rowsText, foundText, answerText, searchFor, columnsFor, answerOf, endsAnswer, answerLines, queriesOf, openedOf, openWords, programWords, answersText, outputOf}
 use Rattle.lines.proofs.Cut.{Line, Ended, lines-joined, joined-append, ended-behind, ended-each, broken-fewer}
 use Rattle.answers.proofs.Reading.{one-line}
 use Rattle.answers.proofs.Responding.{output-opened, output-refused}

@@ -2,9 +2,9 @@
 // read and to write. The rule: docs/RULE.md, "The program"; the definitions: specs/.
 ghost use mathlib.Core.Path.{_≡_};
 ghost use mathlib.Core.Bool.{true};
-ghost use mathlib.Core.List.{List, _++_};
-ghost use Prim.Native.Nat.{ℕ, _+_, _*_, _≤_, _<_};
-ghost use lib.ListN.{length, getD, take, drop};
+ghost use mathlib.Core.List.{_++_};
+ghost use Prim.Native.Nat.{_+_, _*_, _≤_, _<_};
+ghost use lib.ListN.{length, take, drop};
 ghost use Rattle.layouts.specs.Layouts.{longestName};
 ghost use Rattle.frames.specs.Frames.{rowLength};
 ghost use Rattle.index.specs.Good.{Good};

@@ -5,7 +5,7 @@ use mathlib.Core.Bool.{Bool, true, false}
 use mathlib.Core.List.{List, [], _∷_, _++_, map}
 use Prim.Native.Nat.{ℕ, _≤_, _<_}
 use native.Mathlib.Omega.{arith}
-use lib.ListN.{length, getD, take, drop, replicate, length-replicate, length-map, List·getD-append}
+use lib.ListN.{length, getD, drop, replicate, length-replicate, length-map, List·getD-append}
 use lib.Dec.{ltb}
 use borrow.Author.Tests.{lt-ltb, le-ltb}
 use Rattle.laws.specs.Lists.{countOf, tabulate}
@@ -19,8 +19,8 @@ use Rattle.frames.specs.Frames.{queryFrame}
 use Rattle.lines.specs.Lines.{linesOf}
 use Rattle.register.specs.Build.{builtOf, wordsAfter}
 use Rattle.words.specs.Words.{nameId, nameSize}
-use Rattle.search.specs.Method.{sharedWith, answersOf}
-use Rattle.search.specs.Answers.{numberIn, rowsIn, touchesIn, thresholdP, thresholdQ, searchOf, givenBy, Columns, roomOf, over}
+use Rattle.search.specs.Method.{sharedWith}
+use Rattle.search.specs.Answers.{numberIn, rowsIn, touchesIn, searchOf, givenBy, Columns, roomOf, over}
 use Rattle.search.specs.declared.Answer.{Answer}
 use Rattle.search.specs.declared.Answer.the-variants.{Found, Refused}
 use Rattle.search.proofs.Found.{given-found, answered}
@@ -28,7 +28,7 @@ use Rattle.answers.specs.declared.Opened.{Opened}
 use Rattle.answers.specs.Output.{mostInput, registerEnd, registerOf, queriesOf, programWords, rowsLent, openedOf, openWords, queryIn, measureIn, pIn, qIn, allowanceIn, searchFor, placesFor, columnsFor, rowLine, rowText, endLine, refusalLine, answerOf, endsAnswer, answerLines, answersText, outputOf}
 use Rattle.answers.proofs.Responding.{output-opened, output-refused}
 use Rattle.answers.proofs.Ends.{lines-query, lines-stray, lines-once, lines-all, lines-count, output-broken}
-use Rattle.statements.specs.Demands.{columns, Question, answer, number, steps, found, after, refusals, Answered, touchesWith, Demand1, Demand2, Demands, Accepted, ofBuilt}
+use Rattle.statements.specs.Demands.{columns, answer, number, steps, found, after, refusals, Answered, touchesWith, Demands, Accepted, ofBuilt}
 use Rattle.statements.specs.Program.{indexWords, Registered, asks, asked, numberTo, rowsTo, rowTo, linesTo, AnswerTo, Program, Programs}
 use Rattle.statements.proofs.Demands.{searches}
 use Rattle.statements.proofs.Building.{end-to-end}

@@ -40,9 +40,7 @@ use denote.Triple.Entry.{onEntry}
 use denote.Triple.Spec.{Meets, tripleOf}
 use denote.Triple.Table.{entered, cited}
 use denote.Triple.Walked.{says, walkOf, Walks, ends-at, walked, walk-meets}
-use Rattle.names.specs.Features.{featuresOf}
 use Rattle.index.specs.Good.{mostNames}
-use Rattle.search.specs.Method.{answersOf}
 use Rattle.search.specs.Answers.{searchOf, rowsIn, asColumns}
 use Rattle.search.specs.declared.Answer.{Answer}
 use Rattle.search.proofs.Answer as answer-type

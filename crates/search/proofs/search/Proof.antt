@@ -1,10 +1,9 @@
 -- `search` meets its contract: a bad question and a bad index are refused, and any other search is run.
 use mathlib.Core.Path.{_≡_, sym, _∙_}
-use Prim.Native.Nat.{ℕ}
 use native.Mathlib.Omega.{arith}
 use borrow.Author.Needs.{needs}
 use borrow.Author.Tests.{not-true, not-false}
-use Rattle.search.specs.Answers.{questionOf, asColumns, roomOf}
+use Rattle.search.specs.Answers.{asColumns, roomOf}
 use Rattle.search.proofs.Answered.{question-good, refusal-index, search-refused, searched-refused, searched-question}
 use Rattle.search.proofs.search.Statement.{statement}
 use Rattle.search.proofs.search.Tie as tie

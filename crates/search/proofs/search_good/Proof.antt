@@ -1,8 +1,7 @@
 -- `search_good` meets its contract: a bad question is refused, and a good one is run.
 use mathlib.Core.Path.{_≡_, sym, _∙_}
-use Prim.Native.Nat.{ℕ}
 use borrow.Author.Needs.{needs}
-use Rattle.search.specs.Answers.{questionOf, asColumns}
+use Rattle.search.specs.Answers.{asColumns}
 use Rattle.search.proofs.Answered.{question-good, searched-question}
 use Rattle.search.proofs.search_good.Statement.{statement}
 use Rattle.search.proofs.search_good.Tie as tie
