@@ -573,7 +573,7 @@ int main(int count, char **given)
     for (size_t names = 16; names <= 256; names *= 4)
         for (size_t length = 8; length <= 64; length = length == 16 ? 64 : 2 * length)
             grown(names, length, rounds);
-    puts("\nThe goals, by the largest ratio of all rows above:\n");
+    puts("\nThe goals, by the largest ratio of all rows above, the build's of the rows of pool names:\n");
     puts("| ratio | goal | largest | at | |\n|---|---|---|---|---|");
     for (size_t g = 0; g < sizeof goals / sizeof *goals; g++)
         if (goals[g].worst == 0)
