@@ -15,11 +15,12 @@ use Rattle.laws.specs.Below.{countBelow}
 use Rattle.laws.proofs.Below.{and-both, and-left, and-right, sum-below-ext}
 use Rattle.laws.proofs.Ascending.{rises}
 use Rattle.laws.proofs.Found.{first-is, first-none}
-use Rattle.laws.proofs.Halving.{Falling, Stretch, falling-count}
+use Rattle.laws.proofs.Halving.{Falling, Stretch, count-below-place, falling-count}
 use Rattle.laws.proofs.Order.{le-or-lt}
 use Rattle.laws.proofs.Tests.{same-test}
 use Rattle.halving.specs.Column.{columnAt, Rising}
 use Rattle.words.specs.Words.{nameCount, namesStart, nameStart, nameWidth, sizeRoom, nameWord, nameId, nameSize}
+use Rattle.index.specs.Good.{largestId}
 use Rattle.index.specs.Check.{Named, namePlace, nameFor}
 use Rattle.index.proofs.Facts.{head-facts, names-facts}
 
@@ -66,6 +67,15 @@ module _ (w : List ℕ) (good : Named w) where
       ∙ same-test (ltb (nameWord w i) (sizeRoom * id)) (ltb (nameWord w i / sizeRoom) id)
       (λ e. let h = ltb-true (nameWord w i) (sizeRoom * id) e in lt-ltb (nameWord w i / sizeRoom) id (omega arith))
       (λ e. let h = ltb-true (nameWord w i / sizeRoom) id e in lt-ltb (nameWord w i) (sizeRoom * id) (omega arith))))
+
+  -- an id that is too large is past all names
+  pub place-large : (id : ℕ) → largestId < id → nameCount w ≡ namePlace w id
+  unfolding namePlace
+  place-large id h =
+      sym
+      (count-below-place (λ (i : ℕ). ltb (nameId w i) id) (nameCount w) (nameCount w) (omega arith)
+      (λ i l. let m = names-facts w (good .names) .id i l in lt-ltb (nameId w i) id (omega arith))
+      (λ i l m. absurd (omega arith)))
 
   ids-fall : (id : ℕ) → Falling (λ (i : ℕ). ltb (nameId w i) id) (nameCount w)
   ids-fall id i j l m e =

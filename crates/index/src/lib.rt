@@ -103,6 +103,9 @@ pub fn name_place(words: &[u32], id: u32) -> usize
     ensures { λ r. ⌜ r ≡ namePlace (now (words .entry)) id ⌝ }
 {
     let names = words::name_count(words);
+    if LARGEST_ID < id {
+        return names;
+    }
     let first = words::SIZE_ROOM as u64 * id as u64;
     halving::place_in_column(words, words::NAMES_START, words::NAME_WIDTH, names, first)
 }
