@@ -13,9 +13,9 @@ use Rattle.laws.proofs.Members.{member-at}
 use Rattle.laws.proofs.Order.{eq-or-ne}
 use Rattle.names.specs.Features.{featuresOf}
 use Rattle.names.proofs.Laws.{size-most}
-use Rattle.layouts.specs.declared.Reading.{Reading}
-use Rattle.layouts.specs.Layouts.{isFrame, nameIn, readOf, bufferOf, acceptedAs, refusedWith, longestName}
-use Rattle.layouts.proofs.Laws.{read-roomy}
+use Rattle.fields.specs.declared.Reading.{Reading}
+use Rattle.fields.specs.Layouts.{isFrame, nameIn, readOf, bufferOf, acceptedAs, refusedWith, longestName}
+use Rattle.fields.proofs.Laws.{read-roomy}
 use Rattle.frames.specs.declared.QueryRead.{QueryRead}
 use Rattle.frames.specs.Frames.{queryFrame, queryOut}
 use Rattle.words.specs.Words.{nameCount, nameId, nameSize}
@@ -24,7 +24,7 @@ use Rattle.search.specs.Method.{sharedWith, answersOf}
 use Rattle.search.specs.Answers.{numberIn, rowsIn, searchOf, Columns, roomOf, columnsOf, over, columnsOver, placesGiven, Searched}
 use Rattle.search.specs.declared.Answer.{Answer}
 use Rattle.search.specs.declared.Answer.the-variants.{Found, Refused}
-use Rattle.search.proofs.Found.{refused-empty, given-found, Answered, answered, shared-most}
+use Rattle.search.proofs.Outcomes.{refused-empty, given-found, Answered, answered, shared-most}
 use Rattle.search.proofs.Listed.{over-at, answer-place}
 use Rattle.answers.specs.Output.{rowLine, endLine, refusalLine, rowsText, foundText, answerText, rowsLent, queryIn, measureIn, pIn, qIn, allowanceIn, searchFor, columnsFor, answerOf}
 use Rattle.answers.specs.Rows.{Shown}

@@ -16,9 +16,9 @@ use Rattle.laws.proofs.Images.{each-tabulate}
 use Rattle.laws.proofs.Order.{eq-or-ne}
 use Rattle.hex.specs.Lines.{digitOf, placeIn, valueOf, hexOf, hexLine, bytesOf}
 use Rattle.hex.proofs.Lines.{last-feed}
-use Rattle.layouts.specs.Layouts.{isFrame, lineOf, fieldBytes, nameBytes}
-use Rattle.layouts.proofs.Layouts.{frame-other, frame-well-formed}
-use Rattle.layouts.proofs.Laws.{frame-line}
+use Rattle.fields.specs.Layouts.{isFrame, lineOf, fieldBytes, nameBytes}
+use Rattle.fields.proofs.Layouts.{frame-other, frame-well-formed}
+use Rattle.fields.proofs.Laws.{frame-line}
 use Rattle.frames.specs.Frames.{queryFrame, rowFrame, endFrame, refusalFrame}
 use Rattle.lines.specs.Lines.{linesOf, joined}
 use Rattle.search.specs.Answers.{Columns}

@@ -15,7 +15,7 @@ use Rattle.index.proofs.Laws.{refused-not-good}
 use Rattle.lines.specs.Lines.{linesOf, lineLength, lineFeed, joined}
 use Rattle.lines.proofs.Lines.{lines-nil, lines-step, line-within, joined-lines}
 use Rattle.register.proofs.Laws.{accepted-good, refused-bad}
-use Rattle.postings.specs.Written.{blank}
+use Rattle.index_writer.specs.Written.{blank}
 use Rattle.register.specs.Build.{builtOf, wordsAfter}
 use Rattle.register.specs.declared.Built.{Built}
 use Rattle.answers.specs.declared.Opened.{Opened}

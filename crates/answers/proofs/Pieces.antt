@@ -9,9 +9,9 @@ use lib.ListN.{length, take, drop, replicate, length-append, length-drop, length
 use lib.Seq.{drop-drop, take-at, drop-at}
 use lib.Dec.{ltb}
 use borrow.Author.Tests.{ltb-false}
-use Rattle.layouts.specs.declared.Written.{Written}
+use Rattle.fields.specs.declared.Written.{Written}
 use Rattle.lines.specs.Lines.{linesOf, lineLength}
-use Rattle.postings.specs.Written.{blank}
+use Rattle.index_writer.specs.Written.{blank}
 use Rattle.register.specs.Build.{builtOf}
 use Rattle.register.proofs.Names.{same-build}
 use Rattle.answers.specs.declared.Opened.{Opened}

@@ -17,19 +17,19 @@ use Rattle.likeness.proofs.Measures.{threshold-facts}
 use Rattle.likeness.proofs.Terms.{lowest-good}
 use Rattle.hex.specs.Lines.{digits, digitOf, hexOf, hexLine}
 use Rattle.hex.specs.Numbers.{bytesFor}
-use Rattle.layouts.specs.Layouts.{lineOf, fieldBytes, nameBytes, isFrame, readOf}
-use Rattle.layouts.specs.declared.Layout.{Layout}
+use Rattle.fields.specs.Layouts.{lineOf, fieldBytes, nameBytes, isFrame, readOf}
+use Rattle.fields.specs.declared.Layout.{Layout}
 use Rattle.frames.specs.declared.RowRead.the-variants.{Row}
 use Rattle.frames.specs.declared.EndRead.the-variants.{End}
 use Rattle.frames.specs.declared.RefusalRead.the-variants.{Refusal}
 use Rattle.frames.specs.Frames.{queryFrame, rowFrame, endFrame, refusalFrame, rowOut, endOut, refusalOut, refusalLength}
-use Rattle.frames.proofs.Five.{read-write-row, read-write-end, read-write-refusal}
+use Rattle.frames.proofs.RoundTrips.{read-write-row, read-write-end, read-write-refusal}
 use Rattle.lines.specs.Lines.{linesOf, joinLine, lineFeed}
 use Rattle.search.specs.Method.{touchesOf, answersOf}
 use Rattle.search.specs.Answers.{numberIn, rowsIn, Columns}
 use Rattle.search.specs.declared.Answer.{Answer}
 use Rattle.search.specs.declared.Answer.the-variants.{Found, Refused}
-use Rattle.search.proofs.Found.{refused-empty, Answered, answered}
+use Rattle.search.proofs.Outcomes.{refused-empty, Answered, answered}
 use Rattle.answers.specs.Output.{endLine, refusalLine, rowText, answerText, rowsLent, longestAnswer, queryIn, measureIn, pIn, qIn, allowanceIn, searchFor, columnsFor, answerOf}
 use Rattle.answers.specs.Rows.{Shown}
 use Rattle.answers.proofs.Text.{length-found}

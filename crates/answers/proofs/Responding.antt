@@ -12,7 +12,7 @@ use lib.ListN.{length, take, drop, length-drop, replicate, drop-of-length-le}
 use lib.Seq.{drop-drop}
 use lib.Dec.{eqb, leb, ltb}
 use borrow.Author.Tests.{eq-eqb, ne-eqb, lt-ltb, le-ltb}
-use Rattle.layouts.specs.declared.Written.{Written}
+use Rattle.fields.specs.declared.Written.{Written}
 use Rattle.lines.specs.Lines.{linesOf, lineLength}
 use Rattle.lines.proofs.Lines.{line-some, lines-nil, lines-step, length-line-end}
 use Rattle.answers.proofs.Text.{fitting-all, fitted-all, fitting-within}

@@ -13,9 +13,9 @@ use borrow.Rule.Slice.PartMut.{putMid}
 use native.Mathlib.Numerals.{add-one}
 use Rattle.hex.specs.Lines.{hexOf, hexLine}
 use Rattle.hex.specs.Numbers.{bytesFor}
-use Rattle.layouts.specs.Layouts.{fieldBytes, nameBytes, lineOf, writtenOf, outOf}
-use Rattle.layouts.specs.declared.Written.{Written}
-use Rattle.layouts.specs.declared.Layout.{Layout}
+use Rattle.fields.specs.Layouts.{fieldBytes, nameBytes, lineOf, writtenOf, outOf}
+use Rattle.fields.specs.declared.Written.{Written}
+use Rattle.fields.specs.declared.Layout.{Layout}
 use Rattle.frames.specs.Frames.{rowFrame, endFrame, refusalFrame, rowLength, endLength}
 use Rattle.search.specs.Answers.{Columns}
 use Rattle.answers.specs.Output.{rowLine, endLine, refusalLine, rowText, rowsText, foundText, answerText, fittingOf, fittedOf}

@@ -7,11 +7,11 @@ use lib.ListN.{length, getD, take, drop, replicate}
 use lib.Dec.{eqb, leb, ltb}
 use Rattle.laws.specs.Lists.{tabulate}
 use Rattle.names.specs.Features.{featuresOf}
-use Rattle.layouts.specs.declared.Written.{Written}
-use Rattle.layouts.specs.Layouts.{isFrame, fieldsIn, nameIn, lineOf}
+use Rattle.fields.specs.declared.Written.{Written}
+use Rattle.fields.specs.Layouts.{isFrame, fieldsIn, nameIn, lineOf}
 use Rattle.frames.specs.Frames.{queryFrame, rowFrame, endFrame, refusalFrame, rowLength, endLength}
 use Rattle.lines.specs.Lines.{linesOf, lineLength}
-use Rattle.postings.specs.Written.{blank}
+use Rattle.index_writer.specs.Written.{blank}
 use Rattle.register.specs.Build.{builtOf, wordsAfter}
 use Rattle.search.specs.Answers.{searchOf, Columns, columnsOf, placesGiven}
 use Rattle.search.specs.declared.Answer.{Answer}

@@ -5,13 +5,13 @@ ghost use mathlib.Core.Bool.{true};
 ghost use mathlib.Core.List.{_++_};
 ghost use Prim.Native.Nat.{_+_, _*_, _≤_, _<_};
 ghost use lib.ListN.{length, take, drop};
-ghost use Rattle.layouts.specs.Layouts.{longestName};
+ghost use Rattle.fields.specs.Layouts.{longestName};
 ghost use Rattle.frames.specs.Frames.{rowLength};
 ghost use Rattle.index.specs.Good.{Good};
 ghost use Rattle.search.specs.Answers.{rowsIn, asColumns, Searched};
 ghost use Rattle.answers.specs.Output.{begins, registerEnd, openedOf, openWords, rowLine, rowsText, rowsLent, foundText, answerText, answerOf, fittingOf, fittedOf, lineText, respondedOf};
 ghost use Rattle.answers.specs.Rows.{Shown};
-use layouts::Written;
+use fields::Written;
 use search::Answer;
 
 // The most bytes of an input, the words of the program's index, the rows that it lends to a search, and the bytes of its longest answer: a line for
@@ -67,7 +67,7 @@ pub fn open(input: &[u8], words: &mut [u32]) -> Opened
     ensures { λ _. ⌜ now (words .exit) ≡ openWords (now (input .entry)) (now (words .entry)) ⌝ }
 {
     if MOST_INPUT < input.len() {
-        postings::fill(words);
+        index_writer::fill(words);
         return Opened {
             number: 8,
             line: 0,
@@ -217,7 +217,7 @@ fn answer_good(line: &[u8], words: &[u32], out: &mut [u8]) -> Written
     requires { ⌜ Good (now words) ⌝ }
     ensures { λ r. ⌜ (r ≡ fittingOf (answerOf (now (words .entry)) (now (line .entry))) (length (now (out .entry)))) × (now (out .exit) ≡ fittedOf (answerOf (now (words .entry)) (now (line .entry))) (now (out .entry))) ⌝ }
 {
-    let mut query = [0u8; layouts::LONGEST_NAME];
+    let mut query = [0u8; fields::LONGEST_NAME];
     let mut ids = [0u32; ROWS_LENT];
     let mut shared = [0u32; ROWS_LENT];
     let mut sizes = [0u32; ROWS_LENT];
@@ -237,7 +237,7 @@ fn answer_good(line: &[u8], words: &[u32], out: &mut [u8]) -> Written
 pub fn answer(line: &[u8], words: &[u32], out: &mut [u8]) -> Written
     ensures { λ r. ⌜ (r ≡ fittingOf (answerOf (now (words .entry)) (now (line .entry))) (length (now (out .entry)))) × (now (out .exit) ≡ fittedOf (answerOf (now (words .entry)) (now (line .entry))) (now (out .entry))) ⌝ }
 {
-    let mut query = [0u8; layouts::LONGEST_NAME];
+    let mut query = [0u8; fields::LONGEST_NAME];
     let mut ids = [0u32; ROWS_LENT];
     let mut shared = [0u32; ROWS_LENT];
     let mut sizes = [0u32; ROWS_LENT];

@@ -21,7 +21,7 @@ fn tally(ids: &[u32], list: &[u32], counts: &mut [u32], met: &mut [usize], alrea
     let mut next = 0;
     let mut k = 0;
     while k < list.len() {
-        let i = halving::place_near(ids, list[k], next);
+        let i = binary_search::place_near(ids, list[k], next);
         next = i + 1;
         let count = counts[i];
         if count == 0 {
@@ -45,8 +45,8 @@ fn counted(list: &[u32], id: u32, count: u32, guess: usize) -> Tested
     requires { ⌜ Ascending (now list) × (count ≤ 65535) ⌝ }
     ensures { λ r. ⌜ (r .count ≡ count + cond (member id (now (list .entry))) 1 0) × (r .count ≤ 65536) ⌝ }
 {
-    let at = halving::place_near(list, id, guess);
-    if halving::stands_at(list, at, id) {
+    let at = binary_search::place_near(list, id, guess);
+    if binary_search::stands_at(list, at, id) {
         return Tested {
             count: count + 1,
             next: at + 1,

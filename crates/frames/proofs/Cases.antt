@@ -7,7 +7,7 @@ use Prim.Native.Nat.{ℕ}
 use Rattle.laws.specs.Lists.{sumOf}
 use Rattle.hex.specs.Lines.{digitOf, placeIn, valueOf, isDigit, hexOf, hexLine, wellFormed, bytesOf}
 use Rattle.hex.specs.Numbers.{numberOf, bytesFor}
-use Rattle.layouts.specs.Layouts.{headSize, fieldBytes, nameBytes, lineOf, nameSize, laidOut, isFrame, fieldsOf, fieldsIn, nameIn, readOf}
+use Rattle.fields.specs.Layouts.{headSize, fieldBytes, nameBytes, lineOf, nameSize, laidOut, isFrame, fieldsOf, fieldsIn, nameIn, readOf}
 use Rattle.frames.specs.declared.RowRead.the-variants.{Row}
 use Rattle.frames.specs.declared.EndRead.the-variants.{End}
 use Rattle.frames.specs.declared.RefusalRead.the-variants.{Refusal}

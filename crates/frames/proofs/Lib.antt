@@ -1,2 +1,2 @@
-pub mod Five
+pub mod RoundTrips
 pub mod Cases

@@ -1,12 +1,12 @@
 -- The five frames as layouts, and the answers of their readers set out as a reading: number, fields and length of the name.
--- What a frame of a layout is, and what reading and writing it answer, is in `layouts`.
+-- What a frame of a layout is, and what reading and writing it answer, is in `fields`.
 -- Assumes nothing.
 use mathlib.Core.Bool.{true, false}
 use mathlib.Core.List.{List, [], _∷_}
 use Prim.Native.Nat.{ℕ}
-use Rattle.layouts.specs.declared.Layout.{Layout}
-use Rattle.layouts.specs.declared.Reading.{Reading}
-use Rattle.layouts.specs.Layouts.{refusedWith}
+use Rattle.fields.specs.declared.Layout.{Layout}
+use Rattle.fields.specs.declared.Reading.{Reading}
+use Rattle.fields.specs.Layouts.{refusedWith}
 use Rattle.frames.specs.declared.NameRead.{NameRead}
 use Rattle.frames.specs.declared.QueryRead.{QueryRead}
 use Rattle.frames.specs.declared.RowRead.{RowRead}

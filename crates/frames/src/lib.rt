@@ -1,10 +1,10 @@
-// The five frames: hexadecimal lines to fields and back, over lent slices. Each is a layout for the reader and the writer of the crate `layouts`.
-use layouts::Layout;
-use layouts::Written;
+// The five frames: hexadecimal lines to fields and back, over lent slices. Each is a layout for the reader and the writer of the crate `fields`.
+use fields::Layout;
+use fields::Written;
 ghost use mathlib.Core.Path.{_≡_};
 ghost use mathlib.Core.List.{[], _∷_};
 ghost use lib.ListN.{length};
-ghost use Rattle.layouts.specs.Layouts.{readOf, bufferOf, writtenOf, outOf};
+ghost use Rattle.fields.specs.Layouts.{readOf, bufferOf, writtenOf, outOf};
 ghost use Rattle.frames.specs.Frames.{nameFrame, queryFrame, rowFrame, endFrame, refusalFrame, nameOut, queryOut, rowOut, endOut, refusalOut};
 
 // The layouts of the five frames.
@@ -90,7 +90,7 @@ pub fn read_name(line: &[u8], name: &mut [u8]) -> NameRead
     ensures { λ r. ⌜ nameOut r ≡ readOf nameFrame (now (line .entry)) (length (now (name .entry))) ⌝ }
     ensures { λ _. ⌜ now (name .exit) ≡ bufferOf nameFrame (now (line .entry)) (now (name .entry)) ⌝ }
 {
-    let r = layouts::read_named(line, NAME, name);
+    let r = fields::read_named(line, NAME, name);
     let id = r.fields[0] as u16;
     NameRead {
         number: r.number,
@@ -104,7 +104,7 @@ pub fn write_name(out: &mut [u8], id: u16, name: &[u8]) -> Written
     ensures { λ r. ⌜ r ≡ writtenOf nameFrame (id ∷ []) (now (name .entry)) (length (now (out .entry))) ⌝ }
     ensures { λ _. ⌜ now (out .exit) ≡ outOf nameFrame (id ∷ []) (now (name .entry)) (now (out .entry)) ⌝ }
 {
-    layouts::write(out, NAME, [id as u32, 0, 0, 0], name)
+    fields::write(out, NAME, [id as u32, 0, 0, 0], name)
 }
 
 // Reads a 51 line, and puts the query at the start of the buffer.
@@ -112,7 +112,7 @@ pub fn read_query(line: &[u8], query: &mut [u8]) -> QueryRead
     ensures { λ r. ⌜ queryOut r ≡ readOf queryFrame (now (line .entry)) (length (now (query .entry))) ⌝ }
     ensures { λ _. ⌜ now (query .exit) ≡ bufferOf queryFrame (now (line .entry)) (now (query .entry)) ⌝ }
 {
-    let r = layouts::read_named(line, QUERY, query);
+    let r = fields::read_named(line, QUERY, query);
     let measure = r.fields[0] as u8;
     let p = r.fields[1] as u16;
     let q = r.fields[2] as u16;
@@ -139,7 +139,7 @@ pub fn write_query(
     ensures { λ r. ⌜ r ≡ writtenOf queryFrame (measure ∷ p ∷ q ∷ allowance ∷ []) (now (query .entry)) (length (now (out .entry))) ⌝ }
     ensures { λ _. ⌜ now (out .exit) ≡ outOf queryFrame (measure ∷ p ∷ q ∷ allowance ∷ []) (now (query .entry)) (now (out .entry)) ⌝ }
 {
-    layouts::write(
+    fields::write(
         out,
         QUERY,
         [measure as u32, p as u32, q as u32, allowance],
@@ -151,7 +151,7 @@ pub fn write_query(
 pub fn read_row(line: &[u8]) -> RowRead
     ensures { λ r. ⌜ rowOut r ≡ readOf rowFrame (now (line .entry)) 0 ⌝ }
 {
-    let r = layouts::read(line, ROW, 0);
+    let r = fields::read(line, ROW, 0);
     if r.number != 0 {
         return RowRead::Malformed;
     }
@@ -166,14 +166,14 @@ pub fn write_row(out: &mut [u8], id: u16, shared: u8, size: u8) -> Written
     ensures { λ r. ⌜ r ≡ writtenOf rowFrame (id ∷ shared ∷ size ∷ []) [] (length (now (out .entry))) ⌝ }
     ensures { λ _. ⌜ now (out .exit) ≡ outOf rowFrame (id ∷ shared ∷ size ∷ []) [] (now (out .entry)) ⌝ }
 {
-    layouts::write(out, ROW, [id as u32, shared as u32, size as u32, 0], &[])
+    fields::write(out, ROW, [id as u32, shared as u32, size as u32, 0], &[])
 }
 
 // Reads a 45 line.
 pub fn read_end(line: &[u8]) -> EndRead
     ensures { λ r. ⌜ endOut r ≡ readOf endFrame (now (line .entry)) 0 ⌝ }
 {
-    let r = layouts::read(line, END, 0);
+    let r = fields::read(line, END, 0);
     if r.number != 0 {
         return EndRead::Malformed;
     }
@@ -194,14 +194,14 @@ pub fn write_end(out: &mut [u8], rows: u16, touches: u32, p: u16, q: u16) -> Wri
     ensures { λ r. ⌜ r ≡ writtenOf endFrame (rows ∷ touches ∷ p ∷ q ∷ []) [] (length (now (out .entry))) ⌝ }
     ensures { λ _. ⌜ now (out .exit) ≡ outOf endFrame (rows ∷ touches ∷ p ∷ q ∷ []) [] (now (out .entry)) ⌝ }
 {
-    layouts::write(out, END, [rows as u32, touches, p as u32, q as u32], &[])
+    fields::write(out, END, [rows as u32, touches, p as u32, q as u32], &[])
 }
 
 // Reads a 58 line.
 pub fn read_refusal(line: &[u8]) -> RefusalRead
     ensures { λ r. ⌜ refusalOut r ≡ readOf refusalFrame (now (line .entry)) 0 ⌝ }
 {
-    let r = layouts::read(line, REFUSAL, 0);
+    let r = fields::read(line, REFUSAL, 0);
     if r.number != 0 {
         return RefusalRead::Malformed;
     }
@@ -215,5 +215,5 @@ pub fn write_refusal(out: &mut [u8], number: u8, touches: u32) -> Written
     ensures { λ r. ⌜ r ≡ writtenOf refusalFrame (number ∷ touches ∷ []) [] (length (now (out .entry))) ⌝ }
     ensures { λ _. ⌜ now (out .exit) ≡ outOf refusalFrame (number ∷ touches ∷ []) [] (now (out .entry)) ⌝ }
 {
-    layouts::write(out, REFUSAL, [number as u32, touches, 0, 0], &[])
+    fields::write(out, REFUSAL, [number as u32, touches, 0, 0], &[])
 }

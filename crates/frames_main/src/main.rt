@@ -1,12 +1,12 @@
 // Shows what each of the five readers makes of lines good and damaged, and what the writers make of what was read.
 // In the input a bar stands after each line, so that a line may lack its line feed or have two.
 // vectors.py, beside src/, made the files stdin and stdout from the rule of the frames alone; it shares nothing with the crates.
+use fields::Written;
 use frames::EndRead;
 use frames::NameRead;
 use frames::QueryRead;
 use frames::RefusalRead;
 use frames::RowRead;
-use layouts::Written;
 
 fn text(s: &[u8]) {
     io::write_all(1, s);
@@ -30,22 +30,22 @@ fn written(w: Written, out: [u8; 640], room: usize) {
     text(b"\n");
 }
 
-fn put_name(room: usize, r: NameRead, name: [u8; layouts::LONGEST_NAME]) {
+fn put_name(room: usize, r: NameRead, name: [u8; fields::LONGEST_NAME]) {
     let mut out = [46u8; 640];
     let len = r.len;
     if room <= 640 {
-        if len <= layouts::LONGEST_NAME {
+        if len <= fields::LONGEST_NAME {
             let w = frames::write_name(&mut out[0..room], r.id, &name[0..len]);
             written(w, out, room);
         }
     }
 }
 
-fn put_query(room: usize, r: QueryRead, query: [u8; layouts::LONGEST_NAME]) {
+fn put_query(room: usize, r: QueryRead, query: [u8; fields::LONGEST_NAME]) {
     let mut out = [46u8; 640];
     let len = r.len;
     if room <= 640 {
-        if len <= layouts::LONGEST_NAME {
+        if len <= fields::LONGEST_NAME {
             let w = frames::write_query(
                 &mut out[0..room],
                 r.measure,
@@ -117,7 +117,7 @@ fn name(line: &[u8]) {
     let mut small = [46u8; 8];
     let r = frames::read_name(line, &mut small);
     show_name(r, small);
-    let mut large = [46u8; layouts::LONGEST_NAME];
+    let mut large = [46u8; fields::LONGEST_NAME];
     let s = frames::read_name(line, &mut large);
     let n = line.len();
     if s.number == 0 && 0 < n {
@@ -130,7 +130,7 @@ fn query(line: &[u8]) {
     let mut small = [46u8; 8];
     let r = frames::read_query(line, &mut small);
     show_query(r, small);
-    let mut large = [46u8; layouts::LONGEST_NAME];
+    let mut large = [46u8; fields::LONGEST_NAME];
     let s = frames::read_query(line, &mut large);
     let n = line.len();
     if s.number == 0 && 0 < n {
@@ -217,7 +217,7 @@ fn lines(input: &[u8]) {
 
 // A name one byte too long is refused with 2, with room for its line and without.
 fn long_name(room: usize) {
-    let long = [65u8; layouts::LONGEST_NAME + 1];
+    let long = [65u8; fields::LONGEST_NAME + 1];
     let mut out = [46u8; 640];
     if room <= 640 {
         let w = frames::write_name(&mut out[0..room], 1, &long);
@@ -226,7 +226,7 @@ fn long_name(room: usize) {
 }
 
 fn long_query(room: usize) {
-    let long = [65u8; layouts::LONGEST_NAME + 1];
+    let long = [65u8; fields::LONGEST_NAME + 1];
     let mut out = [46u8; 640];
     if room <= 640 {
         let w = frames::write_query(&mut out[0..room], 1, 2, 3, 4, &long);

@@ -1,4 +1,4 @@
--- Laws of numbers as bytes, high byte first, over the width. Cited by the proofs of `number_at` and `put_number` and by `layouts`.
+-- Laws of numbers as bytes, high byte first, over the width. Cited by the proofs of `number_at` and `put_number` and by `fields`.
 -- Assumes nothing.
 use mathlib.Core.Path.{_≡_, refl, sym, ap, ap₂, _∙_}
 use mathlib.Core.List.{List, [], _∷_, _++_}

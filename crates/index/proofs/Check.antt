@@ -12,7 +12,7 @@ use lib.Dec.{leb, ltb, eqb}
 use borrow.Author.Tests.{le-leb, lt-ltb, leb-true, eq-eqb}
 use Rattle.laws.specs.Below.{allBelow, sumBelow}
 use Rattle.laws.proofs.Below.{and-both, and-left, and-right, and-false-left, all-nil, all-fails, sum-below-step}
-use Rattle.laws.proofs.Found.{all-more, pairs-more}
+use Rattle.laws.proofs.FirstFound.{all-more, pairs-more}
 use Rattle.laws.proofs.Tests.{test-fails}
 use Rattle.names.specs.Features.{mostFeatures}
 use Rattle.words.specs.Words.{headWidth, nameCount, rowCount, postingCount, nameId, nameSize, rowPlace, rowLength, postingsStart, rowKey}

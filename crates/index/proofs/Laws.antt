@@ -16,7 +16,7 @@ use Rattle.laws.proofs.Below.{and-left, and-right, any-at}
 use Rattle.laws.proofs.Tests.{same-test, test-fails}
 use Rattle.laws.proofs.Ascending.{rises, rises-apart, ascending-next}
 use Rattle.laws.proofs.Members.{member-place}
-use Rattle.laws.proofs.Halving.{count-below-place}
+use Rattle.laws.proofs.BinarySearch.{count-below-place}
 use Rattle.words.specs.Words.{headWidth, nameCount, rowCount, postingCount, nameId, nameSize, rowSize, rowPlace, rowLength, posting, listAt, total}
 use Rattle.index.specs.Good.{mostNames, mostPostings, isName, Good, headGood, namesGood, rowsGood, listsGood, goodOf}
 use Rattle.index.specs.Check.{namePlace, Checked}
@@ -125,18 +125,6 @@ refused-not-good n =
     let long : length w ≡ n = length-replicate n 4294967295 in
     let first : nameCount w ≡ 4294967295 = getD-replicate n 0 4294967295 0 (omega arith) in
     omega arith)
-
--- ---- what the functions below `good` ask for
-
-pub good-checked : (w : List ℕ) → Good w → Checked w
-unfolding goodOf
-good-checked w g =
-    let abc = and-left (headGood w && namesGood w && rowsGood w) (listsGood w) g in
-    let ab = and-left (headGood w && namesGood w) (rowsGood w) abc in
-    record {
-      named = record { head = and-left (headGood w) (namesGood w) ab; names = and-right (headGood w) (namesGood w) ab };
-      rows = and-right (headGood w && namesGood w) (rowsGood w) abc;
-    }
 
 -- a name's place is found by its id
 pub good-place : (w : List ℕ) → Good w → (i : ℕ) → i < nameCount w → namePlace w (nameId w i) ≡ i

@@ -14,11 +14,11 @@ use borrow.Author.Tests.{lt-ltb, ltb-true, ltb-false, eq-eqb, eqb-true}
 use Rattle.laws.specs.Below.{countBelow}
 use Rattle.laws.proofs.Below.{and-both, and-left, and-right, sum-below-ext}
 use Rattle.laws.proofs.Ascending.{rises}
-use Rattle.laws.proofs.Found.{first-is, first-none}
-use Rattle.laws.proofs.Halving.{Falling, Stretch, count-below-place, falling-count}
+use Rattle.laws.proofs.FirstFound.{first-is, first-none}
+use Rattle.laws.proofs.BinarySearch.{Falling, Stretch, count-below-place, falling-count}
 use Rattle.laws.proofs.Order.{le-or-lt}
 use Rattle.laws.proofs.Tests.{same-test}
-use Rattle.halving.specs.Column.{columnAt, Rising}
+use Rattle.binary_search.specs.Column.{columnAt, Rising}
 use Rattle.words.specs.Words.{nameCount, namesStart, nameStart, nameWidth, sizeRoom, nameWord, nameId, nameSize}
 use Rattle.index.specs.Good.{largestId}
 use Rattle.index.specs.Check.{Named, namePlace, nameFor}

@@ -19,7 +19,7 @@ use Rattle.laws.specs.First.{firstFrom}
 use Rattle.laws.proofs.Lists.{member-append}
 use Rattle.laws.proofs.Below.{and-both, and-left, and-false-left, and-false-right, all-nil, all-at, all-ext, all-fails, any-of, any-at, sum-below-step, sum-below-most}
 use Rattle.laws.proofs.First.{first-passes}
-use Rattle.laws.proofs.Found.{first-found, all-more, pairs-more}
+use Rattle.laws.proofs.FirstFound.{first-found, all-more, pairs-more}
 use Rattle.laws.proofs.Order.{eq-or-ne}
 use Rattle.laws.proofs.Tests.{test-fails}
 use Rattle.laws.proofs.Ascending.{rises, rises-apart, member-nowhere}

@@ -13,7 +13,7 @@ use borrow.Author.Tests.{le-leb}
 use Rattle.laws.specs.Lists.{member}
 use Rattle.laws.specs.Below.{allBelow, anyBelow, sumBelow, countBelow}
 use Rattle.laws.proofs.Below.{and-both, and-left, and-right, all-ext, sum-below-ext}
-use Rattle.laws.proofs.Found.{any-ext}
+use Rattle.laws.proofs.FirstFound.{any-ext}
 use Rattle.names.specs.Features.{mostFeatures}
 use Rattle.words.specs.Words.{headWidth, nameCount, rowCount, postingCount, nameStart, sizeRoom, rowWidth, featureColumn, placeColumn, lengthColumn, nameWord, nameId, nameSize, rowSize, rowFeature, rowPlace, rowLength, rowStart, postingsStart, posting, listStart, listAt, total}
 use Rattle.index.specs.Good.{mostNames, mostPostings, largestId, leastSize, headGood, nameGood, namesGood, rowBefore, placeDue, rowGood, rowsGood, isName, listGood, listsWith, listsGood, goodOf, Good}

@@ -98,7 +98,7 @@ fn rows_good(words: &[u32]) -> bool
 }
 
 // How many names have an id below: the place of the id's name, where it is one.
-pub fn name_place(words: &[u32], id: u32) -> usize
+fn name_place(words: &[u32], id: u32) -> usize
     requires { ⌜ Named (now words) ⌝ }
     ensures { λ r. ⌜ r ≡ namePlace (now (words .entry)) id ⌝ }
 {
@@ -107,7 +107,7 @@ pub fn name_place(words: &[u32], id: u32) -> usize
         return names;
     }
     let first = words::SIZE_ROOM as u64 * id as u64;
-    halving::place_in_column(words, words::NAMES_START, words::NAME_WIDTH, names, first)
+    binary_search::place_in_column(words, words::NAMES_START, words::NAME_WIDTH, names, first)
 }
 
 // The place of the name of that id and that size; N where there is none.

@@ -9,8 +9,8 @@ pub mod Members
 pub mod Sort
 pub mod Images
 pub mod Ascending
-pub mod Halving
-pub mod Found
+pub mod BinarySearch
+pub mod FirstFound
 pub mod Sums
 pub mod Hits
 pub mod Cases

@@ -1,4 +1,4 @@
--- Laws of the members of a list, and of a statement of each of them. Cited by `sorting`, `index`, `postings`, `candidates`, `search`,
+-- Laws of the members of a list, and of a statement of each of them. Cited by `sorting`, `index`, `index_writer`, `candidates`, `search`,
 -- `answers` and `statements`.
 -- Assumes nothing.
 use mathlib.Core.Path.{_≡_, refl, sym, ap, _∙_}

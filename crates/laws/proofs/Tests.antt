@@ -1,5 +1,5 @@
 -- Laws of tests: two that pass together are equal, one that cannot pass fails, and both halves of `&&`.
--- Cited by `likeness`, `index`, `lists`, `postings`, `candidates` and `search`.
+-- Cited by `likeness`, `index`, `lists`, `index_writer`, `candidates` and `search`.
 -- Assumes nothing.
 use mathlib.Core.Path.{_≡_, refl, sym, _∙_}
 use mathlib.Core.Bool.{Bool, true, false, _&&_, false≢true}

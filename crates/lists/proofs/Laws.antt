@@ -15,7 +15,7 @@ use Rattle.laws.specs.Below.{sumBelow, countBelow}
 use Rattle.laws.specs.First.{firstFrom}
 use Rattle.laws.proofs.Lists.{member-append, distinct-nil, distinct-snoc, count-ext, eqb-same}
 use Rattle.laws.proofs.Below.{and-both, and-left, and-right, sum-below-le}
-use Rattle.laws.proofs.Found.{first-found, first-is}
+use Rattle.laws.proofs.FirstFound.{first-found, first-is}
 use Rattle.laws.proofs.Order.{le-or-lt}
 use Rattle.laws.proofs.Tests.{same-test, test-fails}
 use Rattle.laws.proofs.Hits.{ascending-distinct, count-hits}

@@ -13,10 +13,10 @@ use lib.Dec.{ltb, eqb}
 use borrow.Author.Tests.{lt-ltb, ltb-true, ltb-false, eqb-true, eqb-false}
 use Rattle.laws.specs.Below.{countBelow}
 use Rattle.laws.proofs.Below.{count-below-most, count-below-mono, sum-below-ext}
-use Rattle.laws.proofs.Halving.{Falling, Stretch, falling-count}
+use Rattle.laws.proofs.BinarySearch.{Falling, Stretch, falling-count}
 use Rattle.laws.proofs.Order.{le-or-lt}
-use Rattle.halving.specs.Column.{columnAt, Rising}
-use Rattle.halving.proofs.Search.{column-split}
+use Rattle.binary_search.specs.Column.{columnAt, Rising}
+use Rattle.binary_search.proofs.Search.{column-split}
 use Rattle.words.specs.Words.{rowCount, rowSize, rowFeature, rowPlace, rowLength, rowStart, rowWidth, sizeColumn, featureColumn, partRows, partFeature, partPlace, partLength}
 use Rattle.words.proofs.Laws.{size-at, cut-rows, cut-feature, cut-place, cut-length}
 use Rattle.index.specs.Good.{Good}

@@ -24,8 +24,8 @@ pub fn rows_of_size(words: &[u32], size: u32) -> &[u32]
 {
     let n = words::row_count(words);
     let first = words::row_start(words, 0) + words::SIZE_COLUMN;
-    let from = halving::place_in_column(words, first, words::ROW_WIDTH, n, size as u64);
-    let to = halving::place_in_column(words, first, words::ROW_WIDTH, n, size as u64 + 1);
+    let from = binary_search::place_in_column(words, first, words::ROW_WIDTH, n, size as u64);
+    let to = binary_search::place_in_column(words, first, words::ROW_WIDTH, n, size as u64 + 1);
     let start = words::row_start(words, from);
     let end = words::row_start(words, to);
     &words[start..end]
@@ -36,7 +36,7 @@ fn place_if(rows: &[u32], row: usize, first: usize, feature: u64) -> Place
     requires { ⌜ (row < partRows (now rows)) × (first < 2 ^ 63) ⌝ }
     ensures { λ p. ⌜ (p .start ≡ cond (eqb (partFeature (now (rows .entry)) row) feature) (first + partPlace (now (rows .entry)) row) 0) × (p .count ≡ cond (eqb (partFeature (now (rows .entry)) row) feature) (partLength (now (rows .entry)) row) 0) ⌝ }
 {
-    let hit = halving::one_if(words::part_feature(rows, row) == feature);
+    let hit = binary_search::one_if(words::part_feature(rows, row) == feature);
     let start = first + words::part_place(rows, row);
     let count = words::part_length(rows, row);
     Place {
@@ -55,8 +55,14 @@ pub fn place_among(words: &[u32], rows: &[u32], first: usize, size: u32, feature
     if n == 0 {
         return Place { start: 0, count: 0 };
     }
-    let at = halving::place_in_column(rows, words::FEATURE_COLUMN, words::ROW_WIDTH, n, feature);
-    let row = at - halving::one_if(at == n);
+    let at = binary_search::place_in_column(
+        rows,
+        words::FEATURE_COLUMN,
+        words::ROW_WIDTH,
+        n,
+        feature,
+    );
+    let row = at - binary_search::one_if(at == n);
     place_if(rows, row, first, feature)
 }
 

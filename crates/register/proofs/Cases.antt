@@ -11,11 +11,11 @@ use Rattle.names.specs.Names.{judgeOf}
 use Rattle.names.specs.Features.{padded, joined, gramAt, timesIn, numberAt, numbered, featuresBy, featuresOf}
 use Rattle.hex.specs.Lines.{digitOf, placeIn, valueOf, isDigit, hexOf, hexLine, wellFormed, bytesOf}
 use Rattle.hex.specs.Numbers.{numberOf}
-use Rattle.layouts.specs.Layouts.{headSize, nameSize, laidOut, isFrame, fieldsOf, fieldsIn, nameIn}
-use Rattle.postings.specs.Built.{triplesOf, allTriples, joinRow, runsOf, listsOf, rowWords, wordsFrom, rowsOf, wordsOf}
+use Rattle.fields.specs.Layouts.{headSize, nameSize, laidOut, isFrame, fieldsOf, fieldsIn, nameIn}
+use Rattle.index_writer.specs.Built.{triplesOf, allTriples, joinRow, runsOf, listsOf, rowWords, wordsFrom, rowsOf, wordsOf}
 use Rattle.lines.specs.Lines.{joinLine, linesOf}
 use Rattle.register.specs.declared.Built.{Built}
-use Rattle.postings.specs.Written.{blank}
+use Rattle.index_writer.specs.Written.{blank}
 use Rattle.register.specs.Build.{nextFrom, judgeLine, takeLines, takenOf, builtOf, wordsAfter}
 
 -- the line of a name by its bytes

@@ -8,11 +8,11 @@ use native.Mathlib.Omega.{arith}
 use borrow.Author.Tests.{eq-eqb, ne-eqb}
 use lib.ListN.{length, take, replicate}
 use Rattle.index.specs.Good.{mostNames, mostPostings}
-use Rattle.postings.specs.Built.{Entry, wordOf, runsOf, wordsFrom, rowsOf, wordsOf, Fit}
-use Rattle.postings.specs.Keys.{triplesAt, allKeys, Keyed}
-use Rattle.postings.specs.Written.{blank, writtenIn}
-use Rattle.postings.proofs.Keys.{keys-triples}
-use Rattle.postings.proofs.Built.{few-postings}
+use Rattle.index_writer.specs.Built.{Entry, wordOf, runsOf, wordsFrom, rowsOf, wordsOf, Fit}
+use Rattle.index_writer.specs.Keys.{triplesAt, allKeys, Keyed}
+use Rattle.index_writer.specs.Written.{blank, writtenIn}
+use Rattle.index_writer.proofs.Keys.{keys-triples}
+use Rattle.index_writer.proofs.Built.{few-postings}
 use Rattle.ordering.specs.Order.{sizesOf, orderedOf}
 use Rattle.ordering.proofs.Ordered.{sizes-keys, ordered-triples, ordered-keyed}
 use Rattle.register.specs.declared.Built.{Built}

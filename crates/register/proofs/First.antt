@@ -8,7 +8,7 @@ use native.Mathlib.Omega.{arith}
 use borrow.Author.Tests.{eq-eqb, ne-eqb, le-leb, lt-leb}
 use lib.ListN.{length, getD, take, length-append}
 use Rattle.laws.proofs.Order.{eq-or-ne}
-use Rattle.postings.specs.Built.{Entry, wordsOf}
+use Rattle.index_writer.specs.Built.{Entry, wordsOf}
 use Rattle.lines.specs.Lines.{linesOf}
 use Rattle.register.specs.Build.{nextId, judgeLine, judgeNth, entryOf, Taken, takeLines, takenOf, entriesOf, builtOf}
 use Rattle.register.proofs.Taking.{take-none, take-bad, take-good}

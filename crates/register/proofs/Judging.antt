@@ -12,9 +12,9 @@ use lib.Dec.{eqb, ltb, leb}
 use Rattle.laws.specs.Cases.{Case, case, firstCase, allNumbers, allNumbered}
 use Rattle.laws.proofs.Cases.{not-false, first-here, first-next, first-passed, first-front, first-behind, first-split}
 use Rattle.names.specs.Names.{nameCases, judgeOf}
-use Rattle.layouts.specs.declared.Reading.{Reading}
-use Rattle.layouts.specs.Layouts.{isFrame, readOf, bufferOf, acceptedAs, refusedWith}
-use Rattle.layouts.proofs.Laws.{read-roomy, read-fits}
+use Rattle.fields.specs.declared.Reading.{Reading}
+use Rattle.fields.specs.Layouts.{isFrame, readOf, bufferOf, acceptedAs, refusedWith}
+use Rattle.fields.proofs.Laws.{read-roomy, read-fits}
 use Rattle.frames.specs.declared.NameRead.{NameRead}
 use Rattle.frames.specs.Frames.{nameFrame, nameOut}
 use Rattle.index.specs.Good.{mostNames}

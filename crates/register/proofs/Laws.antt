@@ -11,11 +11,11 @@ use lib.ListN.{length, getD, replicate}
 use lib.Dec.{eqb}
 use Rattle.laws.proofs.Order.{eq-or-ne}
 use Rattle.index.specs.Good.{goodOf, Good}
-use Rattle.postings.specs.Built.{Entry, Fit, wordsOf}
-use Rattle.postings.proofs.Built.{fit-nil, fit-snoc, built-good}
+use Rattle.index_writer.specs.Built.{Entry, Fit, wordsOf}
+use Rattle.index_writer.proofs.Built.{fit-nil, fit-snoc, built-good}
 use Rattle.index.proofs.Laws.{refused-not-good}
 use Rattle.lines.specs.Lines.{linesOf}
-use Rattle.postings.specs.Written.{blank, padTo}
+use Rattle.index_writer.specs.Written.{blank, padTo}
 use Rattle.register.specs.Build.{nextId, judgeLine, entryOf, Taken, takeLines, takenOf, entriesOf, roomFor, builtOf, wordsAfter}
 use Rattle.register.proofs.Judging.{good-line}
 use Rattle.register.proofs.Taking.{next-last, take-none, take-bad, take-good, entry-fit}

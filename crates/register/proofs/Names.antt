@@ -13,10 +13,10 @@ use Rattle.names.specs.Features.{featuresOf}
 use Rattle.names.proofs.Laws.{length-features}
 use Rattle.words.specs.Words.{nameCount, nameId, nameSize}
 use Rattle.lists.specs.Lists.{listIn, featuresIn}
-use Rattle.postings.specs.Built.{Entry, noEntry, Fit, wordsOf}
-use Rattle.postings.proofs.Built.{built-name-count, built-id, built-size, built-list, built-listed, built-features}
+use Rattle.index_writer.specs.Built.{Entry, noEntry, Fit, wordsOf}
+use Rattle.index_writer.proofs.Built.{built-name-count, built-id, built-size, built-list, built-listed, built-features}
 use Rattle.lines.specs.Lines.{linesOf, nthLine}
-use Rattle.postings.specs.Written.{blank, padTo}
+use Rattle.index_writer.specs.Written.{blank, padTo}
 use Rattle.register.specs.Build.{idIn, nameOf, judgeNth, entryOf, nextId, takenOf, entriesOf, builtOf, wordsAfter}
 use Rattle.register.proofs.Judging.{good-line}
 use Rattle.register.proofs.First.{none-bad, each-good}

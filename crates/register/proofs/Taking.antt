@@ -11,16 +11,16 @@ use lib.Seq.{take-all, take-suc-set, take-paste, paste}
 use Rattle.names.specs.Names.{judgeOf}
 use Rattle.names.specs.Features.{featuresOf, mostFeatures}
 use Rattle.names.proofs.Laws.{size-most}
-use Rattle.layouts.specs.Layouts.{readOf}
-use Rattle.layouts.proofs.Laws.{read-fits}
-use Rattle.layouts.proofs.Layouts.{field-below, read-good}
+use Rattle.fields.specs.Layouts.{readOf}
+use Rattle.fields.proofs.Laws.{read-fits}
+use Rattle.fields.proofs.Layouts.{field-below, read-good}
 use Rattle.frames.specs.Frames.{nameFrame}
 use Rattle.index.specs.Good.{mostNames, mostPostings, largestId}
-use Rattle.postings.specs.Built.{Entry, noEntry, EntryFit, Fit, wordOf}
-use Rattle.postings.specs.Keys.{placeSpan, keysOf, keysFrom, allKeys}
-use Rattle.postings.proofs.Keys.{keys-append, length-keys, keys-triples}
-use Rattle.postings.proofs.Entries.{length-entries}
-use Rattle.postings.proofs.Built.{fit-nil, fit-snoc, name-fit}
+use Rattle.index_writer.specs.Built.{Entry, noEntry, EntryFit, Fit, wordOf}
+use Rattle.index_writer.specs.Keys.{placeSpan, keysOf, keysFrom, allKeys}
+use Rattle.index_writer.proofs.Keys.{keys-append, length-keys, keys-triples}
+use Rattle.index_writer.proofs.Entries.{length-entries}
+use Rattle.index_writer.proofs.Built.{fit-nil, fit-snoc, name-fit}
 use Rattle.lines.specs.Lines.{linesOf, lineLength}
 use Rattle.register.specs.Build.{idIn, nameOf, nextFrom, nextId, judgeLine, entryOf, Taken, takeLines, takenOf, entriesOf}
 use Rattle.register.specs.Steps.{Tables, Read}
@@ -64,7 +64,7 @@ pub id-most : (count next : ℕ) (line : List ℕ) → judgeLine count next line
 id-most count next line z =
     let f = good-line count next line z .0 in
     let b = field-below nameFrame line 255 (readOf nameFrame line 255) refl 0 in
-    let e = ap (λ (r : Rattle.layouts.specs.declared.Reading.Reading). getD (r .fields) 0 0) (read-good nameFrame line 255 f (read-fits nameFrame line f .short)) in
+    let e = ap (λ (r : Rattle.fields.specs.declared.Reading.Reading). getD (r .fields) 0 0) (read-good nameFrame line 255 f (read-fits nameFrame line f .short)) in
     omega arith
 
 pub entry-fit : (count next : ℕ) (line : List ℕ) → judgeLine count next line ≡ 0 → EntryFit (entryOf line)

@@ -9,11 +9,11 @@ use lib.Dec.{eqb, leb, ltb}
 use Rattle.laws.specs.Cases.{Case, case, firstCase}
 use Rattle.names.specs.Names.{nameCases}
 use Rattle.names.specs.Features.{featuresOf}
-use Rattle.layouts.specs.Layouts.{isFrame, fieldsIn, nameIn}
+use Rattle.fields.specs.Layouts.{isFrame, fieldsIn, nameIn}
 use Rattle.frames.specs.Frames.{nameFrame}
 use Rattle.index.specs.Good.{mostNames}
-use Rattle.postings.specs.Built.{Entry, wordsOf}
-use Rattle.postings.specs.Written.{blank, fitsIn, padTo}
+use Rattle.index_writer.specs.Built.{Entry, wordsOf}
+use Rattle.index_writer.specs.Written.{blank, fitsIn, padTo}
 use Rattle.lines.specs.Lines.{linesOf, nthLine}
 use Rattle.register.specs.declared.Built.{Built}
 

@@ -4,8 +4,8 @@ use mathlib.Core.Path.{_≡_}
 use mathlib.Core.List.{List, map}
 use Prim.Native.Nat.{ℕ, _≤_}
 use lib.ListN.{length, take}
-use Rattle.postings.specs.Built.{Entry, Fit, wordOf}
-use Rattle.postings.specs.Keys.{allKeys}
+use Rattle.index_writer.specs.Built.{Entry, Fit, wordOf}
+use Rattle.index_writer.specs.Keys.{allKeys}
 use Rattle.register.specs.Build.{judgeLine, idIn, nameOf, takenOf, entriesOf}
 
 -- ---- one line

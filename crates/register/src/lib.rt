@@ -7,9 +7,9 @@ ghost use lib.Seq.{paste};
 ghost use Rattle.names.specs.Names.{judgeOf};
 ghost use Rattle.names.specs.Features.{featuresOf};
 ghost use Rattle.words.specs.Words.{sizeRoom, featureSpan};
-ghost use Rattle.layouts.specs.Layouts.{longestName};
+ghost use Rattle.fields.specs.Layouts.{longestName};
 ghost use Rattle.index.specs.Good.{mostNames, mostPostings, largestId};
-ghost use Rattle.postings.specs.Keys.{placeSpan};
+ghost use Rattle.index_writer.specs.Keys.{placeSpan};
 ghost use Rattle.register.specs.Build.{builtOf, wordsAfter};
 ghost use Rattle.register.specs.Steps.{Heard, Read};
 
@@ -69,7 +69,7 @@ fn put_keys(items: &[u64], size: usize, place: u64, keys: &mut [u64], at: usize)
 {
     let mut k = 0;
     while k < size {
-        keys[at + k] = items[k] * postings::PLACE_SPAN + place;
+        keys[at + k] = items[k] * index_writer::PLACE_SPAN + place;
         k += 1;
     }
 }
@@ -149,7 +149,7 @@ fn build_with(
     let taken = take_lines(register, name, names, keys);
     let number = taken.number;
     if number != 0 {
-        postings::fill(words);
+        index_writer::fill(words);
         return Built {
             number,
             line: taken.line,
@@ -158,7 +158,7 @@ fn build_with(
     let n = taken.names;
     let p = taken.postings;
     ordering::order(&names[..n], &mut keys[..p], &mut ordered[..p]);
-    if postings::write_index(&names[..n], &ordered[..p], words) {
+    if index_writer::write_index(&names[..n], &ordered[..p], words) {
         return Built { number: 0, line: 0 };
     }
     Built { number: 8, line: 0 }
@@ -168,7 +168,7 @@ fn build_with(
 pub fn build(register: &[u8], words: &mut [u32]) -> Built
     ensures { λ r. ⌜ (r ≡ builtOf (now (register .entry)) (length (now (words .entry)))) × (now (words .exit) ≡ wordsAfter (now (register .entry)) (now (words .entry))) ⌝ }
 {
-    let mut name = [0u8; layouts::LONGEST_NAME];
+    let mut name = [0u8; fields::LONGEST_NAME];
     let mut names = [0u32; index::MOST_NAMES];
     let mut keys = [0u64; index::MOST_POSTINGS];
     let mut ordered = [0u64; index::MOST_POSTINGS];

@@ -22,7 +22,7 @@ use Rattle.index.specs.Good.{mostNames, goodOf}
 use Rattle.index.proofs.Laws.{good-names-most}
 use Rattle.search.specs.Method.{sharedWith, touchesOf, listed, answersBelow, answersOf}
 use Rattle.search.specs.Answers.{rowsIn, refusalOf, searchGoodOf, searchOf, givenBy, Columns, roomOf, columnsOf, columnsOver, placesGiven, Searched}
-use Rattle.search.proofs.Found.{asked}
+use Rattle.search.proofs.Outcomes.{asked}
 use Rattle.search.specs.declared.Answer.{Answer}
 use Rattle.search.specs.declared.Answer.the-variants.{Found, Refused}
 use Rattle.rows.specs.declared.Row.{Row}

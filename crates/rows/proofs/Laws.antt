@@ -10,7 +10,7 @@ use Rattle.names.specs.Features.{featuresOf}
 use Rattle.words.specs.Words.{nameId, nameSize}
 use Rattle.search.specs.Method.{sharedWith, answersOf}
 use Rattle.search.specs.Answers.{numberIn, searchOf, Columns, columnsOf, over, columnsOver}
-use Rattle.search.proofs.Found.{refused-gives}
+use Rattle.search.proofs.Outcomes.{refused-gives}
 use Rattle.rows.specs.declared.Row.{Row}
 use Rattle.rows.specs.Rows.{rowOf, rowsOf, overRows, rowsAfter, columnsIn}
 

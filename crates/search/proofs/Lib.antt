@@ -3,12 +3,12 @@ pub mod Work
 pub mod Present
 pub mod Order
 pub mod Size
-pub mod Idle
+pub mod EmptySignatures
 pub mod Answering
 pub mod Rows
-pub mod Whole
+pub mod AgainstMethod
 pub mod Answered
 pub mod Running
 pub mod Listed
-pub mod Found
+pub mod Outcomes
 pub mod Total

@@ -24,7 +24,7 @@ use Rattle.search.specs.declared.Answer.{Answer}
 use Rattle.search.specs.declared.Answer.the-variants.{Found, Refused}
 use Rattle.search.proofs.Answered.{good-past, good-full, good-found, question-none, refusal-none, search-runs, searched-refused}
 use Rattle.search.proofs.Answering.{length-answers}
-use Rattle.search.proofs.Whole.{touches-sorted, answers-sorted, shared-sorted, asked-of, query-features, places-answers, shared-column}
+use Rattle.search.proofs.AgainstMethod.{touches-sorted, answers-sorted, shared-sorted, asked-of, query-features, places-answers, shared-column}
 
 -- the places of the answers, as the table holds them, and their rows
 abbrev pub placesOf : List ℕ → List ℕ → List ℕ

@@ -92,7 +92,7 @@ fn find_lists(
         let key = place.count as u64 * 256 + j as u64;
         starts[j] = place.start;
         keys[j] = key;
-        filled += halving::one_if(255 < key);
+        filled += binary_search::one_if(255 < key);
         j += 1;
     }
     filled

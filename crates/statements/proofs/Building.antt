@@ -14,7 +14,7 @@ use Rattle.names.specs.Shared.{sharedOf}
 use Rattle.names.proofs.Laws.{length-features}
 use Rattle.words.specs.Words.{nameSize}
 use Rattle.index.specs.Good.{goodOf}
-use Rattle.postings.specs.Built.{Entry, wordsOf}
+use Rattle.index_writer.specs.Built.{Entry, wordsOf}
 use Rattle.lists.specs.Lists.{featuresIn}
 use Rattle.lines.specs.Lines.{linesOf, nthLine}
 use Rattle.register.specs.Build.{idIn, nameOf, wordsAfter}
@@ -24,7 +24,7 @@ use Rattle.register.proofs.Names.{accepted-name, accepted-count, accepted-id, a
 use Rattle.search.specs.Answers.{numberIn, rowsIn, refusalOf}
 use Rattle.search.specs.declared.Answer.the-variants.{Refused}
 use Rattle.search.proofs.Answered.{search-refused}
-use Rattle.search.proofs.Found.{asked}
+use Rattle.search.proofs.Outcomes.{asked}
 use Rattle.statements.specs.Demands.{Lending, columns, records, Question, Bytes, answer, number, after, Answered, RefusedBefore, sharedBy, Reaches, rowIds, Demand2, Accepted, ofBuilt, Builds, sharedWithLine, Listing, EndToEnd}
 use Rattle.statements.proofs.Lent.{Lends, columns-lend, records-lend}
 use Rattle.statements.proofs.Demands.{refused-first, demands}

@@ -32,9 +32,9 @@ use Rattle.search.specs.Answers.{numberIn, rowsIn, touchesIn, thresholdP, thres
 use Rattle.search.specs.declared.Answer.{Answer}
 use Rattle.search.specs.declared.Answer.the-variants.{Found, Refused}
 use Rattle.search.proofs.Laws.{length-lists, held-features, listed-similar, Query}
-use Rattle.search.proofs.Whole.{query-features}
+use Rattle.search.proofs.AgainstMethod.{query-features}
 use Rattle.search.proofs.Answered.{good-past, good-full, good-found, search-refused, search-runs}
-use Rattle.search.proofs.Found.{refused-empty, refused-gives, given-found, Asked, asked, Answered as AnsweredOf, answered}
+use Rattle.search.proofs.Outcomes.{refused-empty, refused-gives, given-found, Asked, asked, Answered as AnsweredOf, answered}
 use Rattle.search.proofs.Listed.{over-taken, over-at, answer-place, answer-ids, answer-listed}
 use Rattle.search.proofs.Work.{touches-candidates, candidates-names, touches-all, touches-most, signatures-least}
 use Rattle.statements.specs.Demands.{Lending, columns, records, Question, Bytes, answer, number, steps, found, after, beforeWork, afterWork, refusals, touchesWith, Demand1, sharedBy, Reaches, rowIds, Demand2, withAllowance, leastAt, listsAt, postingsAt, candidatesAt, Demand3, Demands, Searches}

@@ -16,7 +16,7 @@ use Rattle.likeness.specs.Terms.{divisorF, divisorOf, lowestTerms}
 use Rattle.words.specs.Words.{nameWord, nameId, nameSize, rowSize, rowFeature, rowPlace, rowLength, posting, listAt}
 use Rattle.index.specs.Good.{headGood, nameGood, namesGood, rowBefore, placeDue, rowGood, rowsGood, isName, listGood, listsWith, listsGood, goodOf}
 use Rattle.lists.specs.Lists.{rowIs, rowFor, listIn}
-use Rattle.postings.specs.Built.{triplesOf, allTriples, joinRow, runsOf, listsOf, rowWords, wordsFrom, rowsOf, wordsOf}
+use Rattle.index_writer.specs.Built.{triplesOf, allTriples, joinRow, runsOf, listsOf, rowWords, wordsFrom, rowsOf, wordsOf}
 use Rattle.candidates.specs.Method.{heldBy, signaturePostings, remains}
 use Rattle.search.specs.Method.{orderedFor, listsFor, remaining, touchesAt, sharedWith, touchesOfSize, touchesOf, listed, answersBelow, answersOf}
 use Rattle.search.specs.Answers.{questionOf, refusalOf, searchGoodOf, searchOf}

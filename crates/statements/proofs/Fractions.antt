@@ -22,8 +22,8 @@ use Rattle.search.specs.Method.{listsFor, touchesAt, sizesEnd, touchesOfSize, t
 use Rattle.search.specs.Answers.{questionOf, refusalOf, searchGoodOf, searchOf, givenBy, columnsOf}
 use Rattle.search.specs.declared.Answer.{Answer}
 use Rattle.search.specs.declared.Answer.the-variants.{Found, Refused}
-use Rattle.layouts.specs.Layouts.{Fitting, lineOf, longestName}
-use Rattle.layouts.proofs.Laws.{fitting-named, frame-written, fields-written, name-written}
+use Rattle.fields.specs.Layouts.{Fitting, lineOf, longestName}
+use Rattle.fields.proofs.Laws.{fitting-named, frame-written, fields-written, name-written}
 use Rattle.frames.specs.Frames.{queryFrame}
 use Rattle.answers.specs.Output.{answerText, rowsLent, answerOf}
 use Rattle.statements.specs.Demands.{Lending, columns, records, Question, Bytes, GoodThreshold, SameFraction, Fractions, SameFrames}

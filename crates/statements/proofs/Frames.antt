@@ -4,9 +4,9 @@ use mathlib.Core.Path.{refl}
 use mathlib.Core.List.{List, [], _∷_}
 use Prim.Native.Nat.{ℕ}
 use native.Mathlib.Omega.{arith}
-use Rattle.layouts.proofs.Laws.{fitting-named, buffer-write}
+use Rattle.fields.proofs.Laws.{fitting-named, buffer-write}
 use Rattle.frames.specs.Frames.{nameFrame, queryFrame}
-use Rattle.frames.proofs.Five.{read-write-name, read-write-query, read-write-row, read-write-end, read-write-refusal, write-read-name, write-read-query, write-read-row, write-read-end, write-read-refusal, layout-unique}
+use Rattle.frames.proofs.RoundTrips.{read-write-name, read-write-query, read-write-row, read-write-end, read-write-refusal, write-read-name, write-read-query, write-read-row, write-read-end, write-read-refusal, layout-unique}
 use Rattle.statements.specs.Demands.{Frames}
 
 pub frames : Frames

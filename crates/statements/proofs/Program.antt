@@ -13,8 +13,8 @@ use Rattle.laws.specs.Cases.{firstCase}
 use Rattle.laws.proofs.Lists.{tabulate-ext}
 use Rattle.names.specs.Features.{featuresOf}
 use Rattle.likeness.specs.Terms.{lowestTerms}
-use Rattle.layouts.specs.Layouts.{isFrame}
-use Rattle.layouts.proofs.Laws.{read-fits}
+use Rattle.fields.specs.Layouts.{isFrame}
+use Rattle.fields.proofs.Laws.{read-fits}
 use Rattle.frames.specs.Frames.{queryFrame}
 use Rattle.lines.specs.Lines.{linesOf}
 use Rattle.register.specs.Build.{builtOf, wordsAfter}
@@ -23,7 +23,7 @@ use Rattle.search.specs.Method.{sharedWith}
 use Rattle.search.specs.Answers.{numberIn, rowsIn, touchesIn, searchOf, givenBy, Columns, roomOf, over}
 use Rattle.search.specs.declared.Answer.{Answer}
 use Rattle.search.specs.declared.Answer.the-variants.{Found, Refused}
-use Rattle.search.proofs.Found.{given-found, answered}
+use Rattle.search.proofs.Outcomes.{given-found, answered}
 use Rattle.answers.specs.declared.Opened.{Opened}
 use Rattle.answers.specs.Output.{mostInput, registerEnd, registerOf, queriesOf, programWords, rowsLent, openedOf, openWords, queryIn, measureIn, pIn, qIn, allowanceIn, searchFor, placesFor, columnsFor, rowLine, rowText, endLine, refusalLine, answerOf, endsAnswer, answerLines, answersText, outputOf}
 use Rattle.answers.proofs.Responding.{output-opened, output-refused}

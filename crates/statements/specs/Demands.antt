@@ -24,9 +24,9 @@ use Rattle.likeness.specs.Fractions.{FractionLe, numerator, denominator, raised
 use Rattle.likeness.specs.Terms.{lowestTerms}
 use Rattle.words.specs.Words.{nameCount, nameId, nameSize, total}
 use Rattle.index.specs.Good.{Good, mostPostings}
-use Rattle.postings.specs.Built.{wordsOf}
+use Rattle.index_writer.specs.Built.{wordsOf}
 use Rattle.lists.specs.Lists.{listIn, featuresIn}
-use Rattle.layouts.specs.Layouts.{isFrame, nameIn, lineOf, readOf, bufferOf, longestName}
+use Rattle.fields.specs.Layouts.{isFrame, nameIn, lineOf, readOf, bufferOf, longestName}
 use Rattle.frames.specs.Frames.{nameFrame, queryFrame, rowFrame, endFrame, refusalFrame, layouts, nameOut, queryOut, rowOut, endOut, refusalOut}
 use Rattle.frames.specs.declared.NameRead.{NameRead}
 use Rattle.frames.specs.declared.QueryRead.{QueryRead}

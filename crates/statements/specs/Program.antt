@@ -10,7 +10,7 @@ use lib.ListN.{length, take, replicate}
 use Rattle.laws.specs.Lists.{countOf, tabulate}
 use Rattle.laws.specs.Cases.{firstCase}
 use Rattle.likeness.specs.Terms.{lowestTerms}
-use Rattle.layouts.specs.Layouts.{isFrame}
+use Rattle.fields.specs.Layouts.{isFrame}
 use Rattle.frames.specs.Frames.{queryFrame}
 use Rattle.lines.specs.Lines.{linesOf, joined}
 use Rattle.register.specs.Build.{builtOf, wordsAfter}

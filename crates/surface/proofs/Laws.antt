@@ -1,6 +1,6 @@
 -- What a caller of the surface may rely on beyond the equations themselves: how far what it is told to read reaches, and what a refusal leaves
 -- alone. include/rushgirdle.h promises them. That a refused build sets every word is `refused-words` of the crate register; that a refused
--- reading and a refused writing keep the buffer is `buffer-kept` and `out-kept` of the crate layouts.
+-- reading and a refused writing keep the buffer is `buffer-kept` and `out-kept` of the crate fields.
 -- Assumes nothing.
 use mathlib.Core.Path.{_≡_, refl, ap}
 use mathlib.Core.Bool.{Bool, true, false, cond}
@@ -12,9 +12,9 @@ use lib.ListN.{length}
 use lib.Dec.{eqb, leb, ltb}
 use Rattle.names.specs.Features.{featuresOf}
 use Rattle.likeness.specs.Terms.{lowestTerms}
-use Rattle.layouts.specs.declared.Layout.{Layout}
-use Rattle.layouts.specs.Layouts.{lineOf, readOf, writtenOf, longestName}
-use Rattle.layouts.proofs.Layouts.{read-cases}
+use Rattle.fields.specs.declared.Layout.{Layout}
+use Rattle.fields.specs.Layouts.{lineOf, readOf, writtenOf, longestName}
+use Rattle.fields.proofs.Layouts.{read-cases}
 use Rattle.index.specs.Good.{goodOf}
 use Rattle.lists.specs.Part.{none}
 use Rattle.lists.specs.Lists.{spanIn, spanFor}
@@ -26,7 +26,7 @@ use Rattle.search.specs.Answers.{rowsIn, touchesIn, refusalOf, searchGoodOf, se
 use Rattle.rows.specs.declared.Row.{Row}
 use Rattle.rows.specs.Rows.{rowsAfter}
 use Rattle.rows.proofs.Laws.{rows-refused}
-use Rattle.search.proofs.Found.{refused-gives}
+use Rattle.search.proofs.Outcomes.{refused-gives}
 use Rattle.surface.specs.Flat.{listAnswer, searchAnswer, writeAnswer}
 
 -- a list lies within the words, whatever they are

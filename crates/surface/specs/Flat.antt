@@ -3,8 +3,8 @@
 -- Assumes nothing.
 use Prim.Native.Nat.{ℕ}
 use lib.ListN.{getD}
-use Rattle.layouts.specs.declared.Reading.{Reading}
-use Rattle.layouts.specs.declared.Written.{Written}
+use Rattle.fields.specs.declared.Reading.{Reading}
+use Rattle.fields.specs.declared.Written.{Written}
 use Rattle.lists.specs.Part.{Span}
 use Rattle.register.specs.declared.Built.{Built}
 use Rattle.search.specs.declared.Answer.{Answer}

@@ -3,7 +3,7 @@
 ghost use mathlib.Core.Path.{_≡_};
 ghost use mathlib.Core.List.{[], _∷_};
 ghost use lib.ListN.{length};
-ghost use Rattle.layouts.specs.Layouts.{readOf, bufferOf, writtenOf, outOf};
+ghost use Rattle.fields.specs.Layouts.{readOf, bufferOf, writtenOf, outOf};
 ghost use Rattle.frames.specs.Frames.{nameFrame, queryFrame, rowFrame, endFrame, refusalFrame};
 ghost use Rattle.index.specs.Good.{goodOf};
 ghost use Rattle.lists.specs.Lists.{spanFor};

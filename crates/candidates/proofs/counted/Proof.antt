@@ -4,7 +4,7 @@ use mathlib.Core.Bool.{true, false}
 use native.Mathlib.Omega.{arith}
 use borrow.Author.Needs.{needs}
 use Rattle.laws.specs.Lists.{member}
-use Rattle.halving.proofs.Search.{place-split, place-stands}
+use Rattle.binary_search.proofs.Search.{place-split, place-stands}
 use Rattle.candidates.proofs.counted.Statement.{statement}
 use Rattle.candidates.proofs.counted.Tie as tie
 

@@ -9,7 +9,7 @@ use lib.Seq.{take-all}
 use Rattle.laws.proofs.Members.{member-at}
 use Rattle.laws.proofs.Sort.{ascending-distinct}
 use Rattle.index.specs.Good.{mostNames}
-use Rattle.halving.proofs.Search.{place-met}
+use Rattle.binary_search.proofs.Search.{place-met}
 use Rattle.candidates.specs.Tables.{MetBy, tallied}
 use Rattle.candidates.proofs.Tables.{tallied-nil, tallied-step, tallied-bound, met-room, met-push, met-keep}
 use Rattle.candidates.proofs.Testing.{distinct-fresh}

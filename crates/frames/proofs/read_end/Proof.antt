@@ -2,8 +2,8 @@
 -- Assumes nothing.
 use mathlib.Core.Path.{refl}
 use borrow.Author.Needs.{needs}
-use Rattle.layouts.proofs.Layouts.{field-below}
-use Rattle.layouts.proofs.Coded.{plain-read, plain-refused}
+use Rattle.fields.proofs.Layouts.{field-below}
+use Rattle.fields.proofs.Coded.{plain-read, plain-refused}
 use Rattle.frames.specs.Frames.{endFrame}
 use Rattle.frames.proofs.read_end.Statement.{statement}
 use Rattle.frames.proofs.read_end.Tie as tie

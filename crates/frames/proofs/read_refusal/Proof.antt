@@ -2,8 +2,8 @@
 -- Assumes nothing.
 use mathlib.Core.Path.{refl}
 use borrow.Author.Needs.{needs}
-use Rattle.layouts.proofs.Layouts.{field-below}
-use Rattle.layouts.proofs.Coded.{plain-read, plain-refused}
+use Rattle.fields.proofs.Layouts.{field-below}
+use Rattle.fields.proofs.Coded.{plain-read, plain-refused}
 use Rattle.frames.specs.Frames.{refusalFrame}
 use Rattle.frames.proofs.read_refusal.Statement.{statement}
 use Rattle.frames.proofs.read_refusal.Tie as tie

@@ -7,7 +7,7 @@ use borrow.Author.Tests.{not-true, not-false}
 use lib.ListN.{length}
 use Rattle.laws.specs.Below.{allBelow}
 use Rattle.laws.proofs.Below.{all-nil, all-fails}
-use Rattle.laws.proofs.Found.{all-more}
+use Rattle.laws.proofs.FirstFound.{all-more}
 use Rattle.words.specs.Words.{rowCount}
 use Rattle.index.specs.Good.{listGood}
 use Rattle.index.specs.Check.{Tallied}

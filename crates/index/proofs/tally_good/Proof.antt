@@ -9,7 +9,7 @@ use lib.ListN.{getD}
 use lib.Dec.{eqb}
 use Rattle.laws.specs.Below.{allBelow}
 use Rattle.laws.proofs.Below.{all-nil, all-fails}
-use Rattle.laws.proofs.Found.{all-more}
+use Rattle.laws.proofs.FirstFound.{all-more}
 use Rattle.words.specs.Words.{nameCount, nameSize}
 use Rattle.index.proofs.Facts.{head-facts}
 use Rattle.index.proofs.tally_good.Statement.{statement}

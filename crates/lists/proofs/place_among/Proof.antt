@@ -11,8 +11,8 @@ use lib.Dec.{eqb, ltb}
 use lib.ListN.{length}
 use Rattle.laws.specs.Below.{countBelow}
 use Rattle.laws.proofs.Order.{eq-or-ne}
-use Rattle.halving.specs.Column.{columnAt}
-use Rattle.halving.proofs.Search.{column-split}
+use Rattle.binary_search.specs.Column.{columnAt}
+use Rattle.binary_search.proofs.Search.{column-split}
 use Rattle.words.specs.Words.{rowCount, rowFeature, rowPlace, rowLength, rowWidth, featureColumn, postingsStart, partRows, partFeature, partPlace, partLength}
 use Rattle.words.proofs.Laws.{part-within, part-most}
 use Rattle.index.proofs.Laws.{good-within}

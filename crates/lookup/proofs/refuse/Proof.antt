@@ -4,7 +4,7 @@ use Prim.Native.Nat.{ℕ, _≤_}
 use native.Mathlib.Omega.{arith}
 use borrow.Author.Needs.{needs}
 use lib.ListN.{length}
-use Rattle.layouts.specs.declared.Written.{Written}
+use Rattle.fields.specs.declared.Written.{Written}
 use Rattle.answers.specs.Output.{refusalLine}
 use Rattle.answers.proofs.Text.{refusal-fitting, refusal-fitted}
 use Rattle.answers.proofs.Reading.{refusal-length}

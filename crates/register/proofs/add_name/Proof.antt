@@ -9,7 +9,7 @@ use Rattle.names.specs.Features.{featuresOf, mostFeatures}
 use Rattle.names.specs.declared.FeatureSet.{FeatureSet}
 use Rattle.names.proofs.Laws.{size-most, feature-fits}
 use Rattle.words.specs.Words.{featureSpan}
-use Rattle.postings.specs.Keys.{placeSpan}
+use Rattle.index_writer.specs.Keys.{placeSpan}
 use Rattle.register.proofs.Pasted.{paste-front}
 use borrow.Author.Needs.{needs}
 use Rattle.register.proofs.add_name.Statement.{statement}

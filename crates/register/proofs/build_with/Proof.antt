@@ -6,9 +6,9 @@ use native.Mathlib.Omega.{arith}
 use lib.Dec.{leb}
 use lib.ListN.{length, take, drop, length-append}
 use lib.Seq.{length-take-le, take-at}
-use Rattle.postings.specs.Built.{runsOf, wordsFrom, wordsOf}
-use Rattle.postings.specs.Keys.{triplesAt, allKeys, Keyed}
-use Rattle.postings.specs.Written.{writtenIn}
+use Rattle.index_writer.specs.Built.{runsOf, wordsFrom, wordsOf}
+use Rattle.index_writer.specs.Keys.{triplesAt, allKeys, Keyed}
+use Rattle.index_writer.specs.Written.{writtenIn}
 use Rattle.ordering.specs.Order.{orderedOf}
 use Rattle.register.specs.Build.{entriesOf}
 use Rattle.register.proofs.Ending.{Held, held, built-bad, built-over, built-in, words-of, keyed-of}

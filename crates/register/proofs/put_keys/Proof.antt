@@ -7,7 +7,7 @@ use native.Mathlib.Numerals.{add-one}
 use lib.ListN.{length, getD, set, length-set, length-map, List·getD-map}
 use lib.Seq.{paste, paste-zero, paste-suc}
 use Rattle.words.specs.Words.{featureSpan}
-use Rattle.postings.specs.Keys.{placeSpan}
+use Rattle.index_writer.specs.Keys.{placeSpan}
 use Rattle.register.proofs.put_keys.Statement.{statement}
 use Rattle.register.proofs.put_keys.Tie as tie
 

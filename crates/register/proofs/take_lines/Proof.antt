@@ -10,7 +10,7 @@ use lib.Seq.{length-take-le, paste}
 use Rattle.names.specs.Names.{judgeOf}
 use Rattle.names.specs.Features.{featuresOf}
 use Rattle.index.specs.Good.{mostNames, mostPostings}
-use Rattle.postings.specs.Keys.{placeSpan}
+use Rattle.index_writer.specs.Keys.{placeSpan}
 use Rattle.lines.proofs.Lines.{line-ends}
 use Rattle.register.proofs.Taking.{Reached, Turn, reached-nil, reached-all, turn-less, turn-few, turn-bad, turn-name, turn-id, turn-room, turn-more}
 use Rattle.register.proofs.take_lines.Statement.{statement}

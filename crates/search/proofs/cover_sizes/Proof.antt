@@ -11,7 +11,7 @@ use Rattle.laws.proofs.Sort.{length-sort}
 use Rattle.names.specs.Features.{featuresOf, mostFeatures}
 use Rattle.names.proofs.Laws.{size-most}
 use Rattle.search.specs.Tables.{Asked, answersTable, Covered}
-use Rattle.search.proofs.Whole.{filled-facts, query-features, asked-of}
+use Rattle.search.proofs.AgainstMethod.{filled-facts, query-features, asked-of}
 use Rattle.search.proofs.Answering.{answers-none}
 use Rattle.search.proofs.cover_sizes.Statement.{statement}
 use Rattle.search.proofs.cover_sizes.Tie as tie

@@ -18,7 +18,7 @@ use Rattle.search.specs.Method.{listsFor, touchesAt}
 use Rattle.search.specs.Tables.{filledOf, idsOf, Asked, Sized}
 use Rattle.candidates.proofs.Spending.{spend-within}
 use Rattle.search.proofs.Size.{ids-few, ids-rise, length-keys, cut-lists, cut-readable, touches-at}
-use Rattle.search.proofs.Idle.{idle-touches, idle-answers}
+use Rattle.search.proofs.EmptySignatures.{idle-touches, idle-answers}
 use Rattle.search.proofs.one_size.Statement.{statement}
 use Rattle.search.proofs.one_size.Tie as tie
 
