@@ -20,7 +20,7 @@ use Rattle.frames.specs.declared.QueryRead.{QueryRead}
 use Rattle.frames.specs.Frames.{queryFrame, queryOut}
 use Rattle.words.specs.Words.{nameCount, nameId, nameSize}
 use Rattle.index.proofs.Laws.{good-name-within}
-use Rattle.search.specs.Method.{sharedWith, answersOf}
+use Rattle.sizes.specs.Method.{sharedWith, answersOf}
 use Rattle.search.specs.Answers.{numberIn, rowsIn, searchOf, Columns, roomOf, columnsOf, over, columnsOver, placesGiven, Searched}
 use Rattle.search.specs.declared.Answer.{Answer}
 use Rattle.search.specs.declared.Answer.the-variants.{Found, Refused}

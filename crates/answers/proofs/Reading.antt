@@ -25,7 +25,7 @@ use Rattle.frames.specs.declared.RefusalRead.the-variants.{Refusal}
 use Rattle.frames.specs.Frames.{queryFrame, rowFrame, endFrame, refusalFrame, rowOut, endOut, refusalOut, refusalLength}
 use Rattle.frames.proofs.RoundTrips.{read-write-row, read-write-end, read-write-refusal}
 use Rattle.lines.specs.Lines.{linesOf, joinLine, lineFeed}
-use Rattle.search.specs.Method.{touchesOf, answersOf}
+use Rattle.sizes.specs.Method.{touchesOf, answersOf}
 use Rattle.search.specs.Answers.{numberIn, rowsIn, Columns}
 use Rattle.search.specs.declared.Answer.{Answer}
 use Rattle.search.specs.declared.Answer.the-variants.{Found, Refused}

@@ -20,7 +20,7 @@ use Rattle.likeness.specs.Terms.{lowestTerms}
 use Rattle.words.specs.Words.{nameCount, nameId, nameSize}
 use Rattle.index.specs.Good.{mostNames, goodOf}
 use Rattle.index.proofs.Laws.{good-names-most}
-use Rattle.search.specs.Method.{sharedWith, touchesOf, listed, answersBelow, answersOf}
+use Rattle.sizes.specs.Method.{sharedWith, touchesOf, listed, answersBelow, answersOf}
 use Rattle.search.specs.Answers.{rowsIn, refusalOf, searchGoodOf, searchOf, givenBy, Columns, roomOf, columnsOf, columnsOver, placesGiven, Searched}
 use Rattle.search.proofs.Outcomes.{asked}
 use Rattle.search.specs.declared.Answer.{Answer}

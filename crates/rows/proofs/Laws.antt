@@ -8,7 +8,7 @@ use lib.ListN.{length, getD, drop, length-append, length-drop, length-map, List�
 use lib.Seq.{getD-drop, getD-append-add}
 use Rattle.names.specs.Features.{featuresOf}
 use Rattle.words.specs.Words.{nameId, nameSize}
-use Rattle.search.specs.Method.{sharedWith, answersOf}
+use Rattle.sizes.specs.Method.{sharedWith, answersOf}
 use Rattle.search.specs.Answers.{numberIn, searchOf, Columns, columnsOf, over, columnsOver}
 use Rattle.search.proofs.Outcomes.{refused-gives}
 use Rattle.rows.specs.declared.Row.{Row}

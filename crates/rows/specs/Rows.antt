@@ -8,7 +8,7 @@ use Rattle.laws.specs.Lists.{tabulate}
 use Rattle.names.specs.Features.{featuresOf}
 use Rattle.words.specs.Words.{nameId, nameSize}
 use Rattle.index.specs.Good.{mostNames}
-use Rattle.search.specs.Method.{sharedWith}
+use Rattle.sizes.specs.Method.{sharedWith}
 use Rattle.search.specs.Answers.{rowsIn, searchOf, Columns, placesGiven}
 use Rattle.search.specs.declared.Answer.{Answer}
 use Rattle.rows.specs.declared.Row.{Row}

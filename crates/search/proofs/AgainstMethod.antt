@@ -31,10 +31,11 @@ use Rattle.words.specs.Words.{nameCount, nameId, nameSize, featureSpan, keyOf}
 use Rattle.index.specs.Good.{Good, mostNames}
 use Rattle.index.proofs.Laws.{good-name-within, good-names-most}
 use Rattle.lists.specs.Lists.{listIn}
-use Rattle.search.specs.Method.{orderedFor, listsFor, sharedWith, sizesEnd, touchesOfSize, touchesOf, listed, answersBelow, answersOf}
-use Rattle.search.specs.Tables.{Asked, answeredAt, answersTable, placesIn}
-use Rattle.search.proofs.Laws.{Query, listed-similar}
-use Rattle.search.proofs.Size.{asked-query}
+use Rattle.sizes.specs.Method.{orderedFor, listsFor, sharedWith, sizesEnd, touchesOfSize, touchesOf, listed, answersBelow, answersOf}
+use Rattle.sizes.specs.Tables.{Asked, answeredAt, answersTable}
+use Rattle.search.specs.Places.{placesIn}
+use Rattle.sizes.proofs.Laws.{Query, listed-similar}
+use Rattle.sizes.proofs.Size.{asked-query}
 
 -- ---- sorted features change nothing
 

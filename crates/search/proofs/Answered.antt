@@ -16,7 +16,7 @@ use Rattle.names.specs.Features.{featuresOf}
 use Rattle.likeness.specs.Measures.{goodMeasure, goodThreshold}
 use Rattle.likeness.specs.Terms.{lowestTerms}
 use Rattle.index.specs.Good.{goodOf}
-use Rattle.search.specs.Method.{touchesOf, answersOf}
+use Rattle.sizes.specs.Method.{touchesOf, answersOf}
 use Rattle.search.specs.Answers.{questionCases, questionOf, refusalOf, searchGoodOf, searchOf, givenBy, Columns, roomOf, columnsOf, columnsOver, Searched}
 use Rattle.search.specs.declared.Answer.{Answer}
 use Rattle.search.specs.declared.Answer.the-variants.{Found, Refused}

@@ -1,14 +1,6 @@
-pub mod Laws
-pub mod Work
-pub mod Present
-pub mod Order
-pub mod Size
-pub mod EmptySignatures
-pub mod Answering
 pub mod Rows
 pub mod AgainstMethod
 pub mod Answered
 pub mod Running
 pub mod Listed
 pub mod Outcomes
-pub mod Total

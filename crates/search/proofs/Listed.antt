@@ -16,7 +16,7 @@ use Rattle.laws.proofs.Sort.{ascending-nil, ascending-snoc}
 use Rattle.words.specs.Words.{nameCount, nameId}
 use Rattle.index.specs.Good.{Good}
 use Rattle.index.proofs.Laws.{good-ids, good-ids-apart}
-use Rattle.search.specs.Method.{listed, answersBelow, answersOf}
+use Rattle.sizes.specs.Method.{listed, answersBelow, answersOf}
 
 -- ---- a column over lent entries
 

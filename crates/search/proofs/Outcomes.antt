@@ -19,11 +19,11 @@ use Rattle.laws.specs.Lists.{member}
 use Rattle.words.specs.Words.{nameId, nameSize}
 use Rattle.index.specs.Good.{goodOf, Good}
 use Rattle.candidates.specs.Method.{heldBy}
-use Rattle.search.specs.Method.{listsFor, sharedWith, touchesOf, answersOf}
+use Rattle.sizes.specs.Method.{listsFor, sharedWith, touchesOf, answersOf}
 use Rattle.search.specs.Answers.{numberIn, rowsIn, thresholdP, thresholdQ, questionOf, refusalOf, searchGoodOf, searchOf, givenBy}
 use Rattle.search.specs.declared.Answer.{Answer}
 use Rattle.search.specs.declared.Answer.the-variants.{Found, Refused}
-use Rattle.search.proofs.Laws.{length-lists}
+use Rattle.sizes.proofs.Laws.{length-lists}
 use Rattle.search.proofs.Answered.{good-past, good-full, good-found, search-refused, search-runs, question-good, refusal-question, refusal-index}
 
 -- ---- a refusal

@@ -10,7 +10,7 @@ use lib.ListN.{length, getD, drop, set, length-append, length-drop, length-map}
 use lib.Seq.{drop-cons, set-at, append-snoc}
 use lib.Dec.{leb}
 use borrow.Author.Tests.{le-leb, lt-leb}
-use Rattle.search.specs.Tables.{placesIn}
+use Rattle.search.specs.Places.{placesIn}
 use Rattle.search.specs.Answers.{over}
 
 pub places-nil : (a : List ℕ) → placesIn a 0 ≡ []

@@ -17,13 +17,14 @@ use Rattle.likeness.specs.Terms.{lowestTerms}
 use Rattle.words.specs.Words.{nameCount, nameId, nameSize}
 use Rattle.index.specs.Good.{Good, mostNames}
 use Rattle.candidates.proofs.Spending.{spent-most}
-use Rattle.search.specs.Method.{sizesEnd, sharedWith, touchesOf, answersOf}
-use Rattle.search.specs.Tables.{Asked, answersTable, placesIn, Covered}
+use Rattle.sizes.specs.Method.{sizesEnd, sharedWith, touchesOf, answersOf}
+use Rattle.sizes.specs.Tables.{Asked, answersTable, Covered}
+use Rattle.search.specs.Places.{placesIn}
 use Rattle.search.specs.Answers.{searchGoodOf, searchOf, givenBy, Columns, roomOf, columnsOf, columnsOver, Searched}
 use Rattle.search.specs.declared.Answer.{Answer}
 use Rattle.search.specs.declared.Answer.the-variants.{Found, Refused}
 use Rattle.search.proofs.Answered.{good-past, good-full, good-found, question-none, refusal-none, search-runs, searched-refused}
-use Rattle.search.proofs.Answering.{length-answers}
+use Rattle.sizes.proofs.Answering.{length-answers}
 use Rattle.search.proofs.AgainstMethod.{touches-sorted, answers-sorted, shared-sorted, asked-of, query-features, places-answers, shared-column}
 
 -- the places of the answers, as the table holds them, and their rows

@@ -13,7 +13,7 @@ use Rattle.likeness.specs.Measures.{goodMeasure, goodThreshold}
 use Rattle.likeness.specs.Terms.{lowestTerms}
 use Rattle.words.specs.Words.{nameId, nameSize}
 use Rattle.index.specs.Good.{goodOf}
-use Rattle.search.specs.Method.{touchesOf, sharedWith, answersOf}
+use Rattle.sizes.specs.Method.{touchesOf, sharedWith, answersOf}
 use Rattle.search.specs.declared.Answer.{Answer}
 use Rattle.search.specs.declared.Answer.the-variants.{Found, Refused}
 

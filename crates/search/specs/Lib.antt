@@ -1,3 +1,2 @@
-pub mod Method
 pub mod Answers
-pub mod Tables
+pub mod Places

@@ -20,7 +20,7 @@ use Rattle.search.specs.Answers.{questionCases, refusalOf, searchGoodOf, search
 use Rattle.search.specs.declared.Answer.{Answer}
 use Rattle.search.specs.declared.Answer.the-variants.{Found, Refused}
 use Rattle.search.proofs.Listed.{answer-place}
-use Rattle.search.proofs.Total.{shared-same, touches-same, answers-same}
+use Rattle.sizes.proofs.Total.{shared-same, touches-same, answers-same}
 use Rattle.statements.specs.Demands.{Lending, columns, records, Question, answer, found, after, withWords, Beyond}
 use Rattle.statements.proofs.Lent.{Lends, columns-lend, records-lend}
 use Rattle.statements.proofs.Demands.{demands}

@@ -27,16 +27,16 @@ use Rattle.words.specs.Words.{nameCount, nameId, nameSize}
 use Rattle.index.specs.Good.{goodOf}
 use Rattle.lists.specs.Lists.{listIn, featuresIn}
 use Rattle.lists.proofs.Laws.{features-member}
-use Rattle.search.specs.Method.{namesOf, sharedWith, touchesOfSize}
+use Rattle.sizes.specs.Method.{namesOf, sharedWith, touchesOfSize}
 use Rattle.search.specs.Answers.{numberIn, rowsIn, touchesIn, thresholdP, thresholdQ, questionOf, refusalOf, searchGoodOf, searchOf, givenBy, Columns, columnsOf, over, columnsOver}
 use Rattle.search.specs.declared.Answer.{Answer}
 use Rattle.search.specs.declared.Answer.the-variants.{Found, Refused}
-use Rattle.search.proofs.Laws.{length-lists, held-features, listed-similar, Query}
+use Rattle.sizes.proofs.Laws.{length-lists, held-features, listed-similar, Query}
 use Rattle.search.proofs.AgainstMethod.{query-features}
 use Rattle.search.proofs.Answered.{good-past, good-full, good-found, search-refused, search-runs}
 use Rattle.search.proofs.Outcomes.{refused-empty, refused-gives, given-found, Asked, asked, Answered as AnsweredOf, answered}
 use Rattle.search.proofs.Listed.{over-taken, over-at, answer-place, answer-ids, answer-listed}
-use Rattle.search.proofs.Work.{touches-candidates, candidates-names, touches-all, touches-most, signatures-least}
+use Rattle.sizes.proofs.Work.{touches-candidates, candidates-names, touches-all, touches-most, signatures-least}
 use Rattle.statements.specs.Demands.{Lending, columns, records, Question, Bytes, answer, number, steps, found, after, beforeWork, afterWork, refusals, touchesWith, Demand1, sharedBy, Reaches, rowIds, Demand2, withAllowance, leastAt, listsAt, postingsAt, candidatesAt, Demand3, Demands, Searches}
 use Rattle.statements.proofs.Lent.{Lends, columns-lend, records-lend}
 

@@ -18,7 +18,7 @@ use Rattle.index.specs.Good.{headGood, nameGood, namesGood, rowBefore, placeDue
 use Rattle.lists.specs.Lists.{rowIs, rowFor, listIn}
 use Rattle.index_writer.specs.Built.{triplesOf, allTriples, joinRow, runsOf, listsOf, rowWords, wordsFrom, rowsOf, wordsOf}
 use Rattle.candidates.specs.Method.{heldBy, signaturePostings, remains}
-use Rattle.search.specs.Method.{orderedFor, listsFor, remaining, touchesAt, sharedWith, touchesOfSize, touchesOf, listed, answersBelow, answersOf}
+use Rattle.sizes.specs.Method.{orderedFor, listsFor, remaining, touchesAt, sharedWith, touchesOfSize, touchesOf, listed, answersBelow, answersOf}
 use Rattle.search.specs.Answers.{questionOf, refusalOf, searchGoodOf, searchOf}
 use Rattle.statements.specs.Figures.{allRight, FiguresRight}
 

@@ -18,7 +18,7 @@ use Rattle.likeness.proofs.Least.{least-equal}
 use Rattle.likeness.proofs.Terms.{lowest-equal}
 use Rattle.words.specs.Words.{nameCount, nameId, nameSize}
 use Rattle.candidates.specs.Method.{remains, laterCount}
-use Rattle.search.specs.Method.{listsFor, touchesAt, sizesEnd, touchesOfSize, touchesOf, listed, answersBelow, answersOf}
+use Rattle.sizes.specs.Method.{listsFor, touchesAt, sizesEnd, touchesOfSize, touchesOf, listed, answersBelow, answersOf}
 use Rattle.search.specs.Answers.{questionOf, refusalOf, searchGoodOf, searchOf, givenBy, columnsOf}
 use Rattle.search.specs.declared.Answer.{Answer}
 use Rattle.search.specs.declared.Answer.the-variants.{Found, Refused}

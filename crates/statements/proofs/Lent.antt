@@ -9,7 +9,7 @@ use lib.Seq.{drop-append-seam}
 use Rattle.laws.specs.Lists.{member}
 use Rattle.laws.proofs.Members.{member-head, member-tail}
 use Rattle.words.specs.Words.{nameId, nameSize}
-use Rattle.search.specs.Method.{sharedWith}
+use Rattle.sizes.specs.Method.{sharedWith}
 use Rattle.search.specs.Answers.{over, columnsOf, columnsOver}
 use Rattle.search.proofs.Listed.{over-beyond}
 use Rattle.rows.specs.Rows.{rowOf, rowsOf, overRows}

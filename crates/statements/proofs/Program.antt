@@ -19,7 +19,7 @@ use Rattle.frames.specs.Frames.{queryFrame}
 use Rattle.lines.specs.Lines.{linesOf}
 use Rattle.register.specs.Build.{builtOf, wordsAfter}
 use Rattle.words.specs.Words.{nameId, nameSize}
-use Rattle.search.specs.Method.{sharedWith}
+use Rattle.sizes.specs.Method.{sharedWith}
 use Rattle.search.specs.Answers.{numberIn, rowsIn, touchesIn, searchOf, givenBy, Columns, roomOf, over}
 use Rattle.search.specs.declared.Answer.{Answer}
 use Rattle.search.specs.declared.Answer.the-variants.{Found, Refused}

@@ -36,7 +36,7 @@ use Rattle.frames.specs.declared.RefusalRead.the-variants.{Refusal}
 use Rattle.lines.specs.Lines.{linesOf, nthLine}
 use Rattle.register.specs.Build.{idIn, nameOf, entryOf, judgeNth, builtOf, wordsAfter}
 use Rattle.candidates.specs.Method.{signatures, signaturePostings}
-use Rattle.search.specs.Method.{namesOf, listsFor, remaining, touchesOfSize, touchesOf, answersOf}
+use Rattle.sizes.specs.Method.{namesOf, listsFor, remaining, touchesOfSize, touchesOf, answersOf}
 use Rattle.search.specs.Answers.{numberIn, rowsIn, touchesIn, thresholdP, thresholdQ, refusalCases, searchOf, givenBy, Columns, roomOf, columnsOf, columnsOver}
 use Rattle.search.specs.declared.Answer.{Answer}
 use Rattle.rows.specs.Rows.{rowsOf, overRows, columnsIn}

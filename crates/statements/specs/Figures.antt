@@ -15,7 +15,7 @@ use Rattle.likeness.specs.Sizes.{isSearched}
 use Rattle.likeness.specs.Least.{leastCount}
 use Rattle.likeness.specs.Terms.{lowestTerms}
 use Rattle.index_writer.specs.Built.{Entry, wordsOf}
-use Rattle.search.specs.Method.{sizesEnd, sharedWith, touchesOfSize, touchesOf, answersOf}
+use Rattle.sizes.specs.Method.{sizesEnd, sharedWith, touchesOfSize, touchesOf, answersOf}
 use Rattle.search.specs.Answers.{numberIn, searchOf}
 
 -- ---- the names of the figures

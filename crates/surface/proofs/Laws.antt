@@ -21,7 +21,7 @@ use Rattle.lists.specs.Lists.{spanIn, spanFor}
 use Rattle.lists.proofs.Spans.{span-within}
 use Rattle.search.specs.declared.Answer.{Answer}
 use Rattle.search.specs.declared.Answer.the-variants.{Found, Refused}
-use Rattle.search.specs.Method.{touchesOf, answersOf}
+use Rattle.sizes.specs.Method.{touchesOf, answersOf}
 use Rattle.search.specs.Answers.{rowsIn, touchesIn, refusalOf, searchGoodOf, searchOf, Columns, roomOf, columnsOf, columnsOver, columnsAfter}
 use Rattle.rows.specs.declared.Row.{Row}
 use Rattle.rows.specs.Rows.{rowsAfter}

@@ -5,7 +5,7 @@ use mathlib.Core.List.{List, _∷_, [], _++_}
 use Prim.Native.Nat.{ℕ, _+_, _≤_, _<_, _-_}
 use native.Mathlib.Omega.{arith}
 use lib.ListN.{length, getD, length-append}
-use Rattle.search.specs.Tables.{placesIn}
+use Rattle.search.specs.Places.{placesIn}
 use Rattle.search.proofs.Rows.{places-nil, places-met, places-passed}
 use Rattle.search.proofs.count_answers.Statement.{statement}
 use Rattle.search.proofs.count_answers.Tie as tie

@@ -8,7 +8,7 @@ use Rattle.laws.proofs.Tables.{tableOver, over-nil, over-step, length-over}
 use Rattle.words.specs.Words.{nameCount, nameId}
 use Rattle.index.specs.Good.{mostNames}
 use Rattle.index.proofs.Laws.{good-three, good-within, good-names-most}
-use Rattle.search.specs.Tables.{idsOf}
+use Rattle.sizes.specs.Tables.{idsOf}
 use Rattle.search.proofs.name_ids.Statement.{statement}
 use Rattle.search.proofs.name_ids.Tie as tie
 

@@ -10,11 +10,12 @@ use Rattle.likeness.specs.declared.Threshold.{Threshold}
 use Rattle.words.specs.Words.{nameCount}
 use Rattle.index.specs.Good.{mostNames}
 use Rattle.index.proofs.Laws.{good-three, good-names-most}
-use Rattle.search.specs.Tables.{idsOf, placesIn}
+use Rattle.sizes.specs.Tables.{idsOf}
+use Rattle.search.specs.Places.{placesIn}
 use Rattle.search.specs.Answers.{asColumns, roomOf}
 use Rattle.search.specs.declared.Answer.the-variants.{Found}
 use Rattle.search.proofs.Rows.{places-most}
-use Rattle.search.proofs.Size.{length-ids, ids-few}
+use Rattle.sizes.proofs.Size.{length-ids, ids-few}
 use Rattle.search.proofs.Running.{Runs, ran-past, ran-wide, ran-enough, ran-full, ran-found}
 use Rattle.search.proofs.run.Statement.{statement}
 use Rattle.search.proofs.run.Tie as tie

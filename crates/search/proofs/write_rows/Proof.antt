@@ -6,7 +6,7 @@ use native.Mathlib.Omega.{arith}
 use lib.ListN.{length, getD, set, length-set, length-append}
 use Rattle.words.specs.Words.{nameCount, nameId, nameSize}
 use Rattle.index.proofs.Laws.{good-three, good-within}
-use Rattle.search.specs.Tables.{placesIn}
+use Rattle.search.specs.Places.{placesIn}
 use Rattle.search.specs.Answers.{over}
 use Rattle.search.proofs.Rows.{places-nil, places-met, places-passed, places-up, over-more}
 use Rattle.search.proofs.write_rows.Statement.{statement}

@@ -5,17 +5,18 @@ use mathlib.Core.List.{List}
 use Prim.Native.Nat.{ℕ, _+_, _≤_, _<_, _-_}
 use native.Mathlib.Omega.{arith}
 use lib.ListN.{length, getD}
+use borrow.Author.Tests.{ltb-true}
 use Rattle.laws.specs.Below.{sumBelow}
 use Rattle.laws.specs.Lists.{tabulate}
 use Rattle.laws.proofs.Lists.{getD-tabulate}
 use Rattle.laws.proofs.Below.{sum-below-step, sum-below-up}
 use Rattle.candidates.specs.Spending.{Spending}
 use Rattle.candidates.proofs.Spending.{spend-within, spent-most, spend-more, spend-both}
-use Rattle.search.specs.Method.{sizesEnd, touchesOfSize, touchesOf}
-use Rattle.search.specs.Tables.{presentAt, answersTable}
-use Rattle.search.proofs.Answering.{length-answers}
-use Rattle.search.proofs.all_sizes.Statement.{statement}
-use Rattle.search.proofs.all_sizes.Tie as tie
+use Rattle.sizes.specs.Method.{sizesEnd, touchesOfSize, touchesOf}
+use Rattle.sizes.specs.Tables.{presentAt, answersTable}
+use Rattle.sizes.proofs.Answering.{length-answers}
+use Rattle.sizes.proofs.all_sizes.Statement.{statement}
+use Rattle.sizes.proofs.all_sizes.Tie as tie
 
 abbrev Inv-loop : tie.InvT-loop
 Inv-loop words ids features measure p q allowance answers₀ present touches₀ y₀ answers touches y =
@@ -83,6 +84,13 @@ returns c =
           spend-more (sumBelow (l .y + 1) (touchesOfSize (b .args .words .now) (b .args .measure) (b .args .p) (b .args .q) (b .args .features .now))) (sumBelow sizesEnd (touchesOfSize (b .args .words .now) (b .args .measure) (b .args .p) (b .args .q) (b .args .features .now))) (b .args .allowance) (s .size-step .result .past) 0 0
           (upto s 0 (λ q. absurd (true≢false (sym (c .if1 .taken) ∙ q)))) (c .if1 .taken) (omega arith);
       answers = λ z. absurd (true≢false z);
+      none = λ z. refl;
+      stopped = λ z. (
+        l .y,
+        (let k = spent-most (sumBelow (l .y) (touchesOfSize (b .args .words .now) (b .args .measure) (b .args .p) (b .args .q) (b .args .features .now))) (b .args .allowance) false (l .touches) (l .inv .2) refl in let e = k .0 in let h = k .1 in omega arith),
+        ltb-true _ _ (sym (upto s 0 (λ q. absurd (true≢false (sym (c .if1 .taken) ∙ q))) .over) ∙ c .if1 .taken),
+        s .size-step .ensures .none (c .if1 .taken) .1,
+      );
     }
 
 -- the touches so far
@@ -126,6 +134,8 @@ returns-2 c =
     record {
       spent = subst (λ (y : ℕ). Spending (sumBelow y (touchesOfSize (b .args .words .now) (b .args .measure) (b .args .p) (b .args .q) (b .args .features .now))) (b .args .allowance) false (l .touches)) e (l .inv .2);
       answers = λ z. l .inv .3 ∙ ap (answersTable (b .args .words .now) (b .args .measure) (b .args .p) (b .args .q) (b .args .features .now)) e;
+      none = λ z. absurd (true≢false (sym z));
+      stopped = λ z. absurd (true≢false (sym z));
     }
 
 pub all-sizes-spec : {M : Type 1} → statement M

@@ -1,7 +1,7 @@
 -- `size_step` meets its contract: a size that no name has, or that isn't searched, costs nothing and adds no answer.
 use mathlib.Core.Path.{_≡_, refl, sym, ap, ap₂, _∙_}
 use mathlib.Core.Logic.{⊎-elim}
-use mathlib.Core.Bool.{Bool, true, false}
+use mathlib.Core.Bool.{Bool, true, false, true≢false}
 use mathlib.Core.List.{List}
 use Prim.Native.Nat.{ℕ, _+_, _≤_, _<_}
 use native.Mathlib.Omega.{arith}
@@ -16,13 +16,13 @@ use Rattle.index.specs.Good.{mostNames}
 use Rattle.candidates.specs.Method.{laterCount}
 use Rattle.candidates.specs.Tables.{remainTable, kept}
 use Rattle.candidates.proofs.Spending.{spend-within}
-use Rattle.search.specs.Method.{listsFor, touchesAt, touchesOfSize}
-use Rattle.search.specs.Tables.{presentAt, idsOf, Sized, Stepped, answersTable}
-use Rattle.search.proofs.Present.{present-none, present-of-none}
-use Rattle.search.proofs.Work.{nobody-zero}
-use Rattle.search.proofs.Answering.{answers-skipped, unsearched, nobody, answers-searched, length-answers, touches-searched, touches-unsearched, touches-nobody}
-use Rattle.search.proofs.size_step.Statement.{statement}
-use Rattle.search.proofs.size_step.Tie as tie
+use Rattle.sizes.specs.Method.{listsFor, touchesAt, touchesOfSize}
+use Rattle.sizes.specs.Tables.{presentAt, idsOf, Sized, Stepped, answersTable}
+use Rattle.sizes.proofs.Present.{present-none, present-of-none}
+use Rattle.sizes.proofs.Work.{nobody-zero}
+use Rattle.sizes.proofs.Answering.{answers-skipped, unsearched, nobody, answers-searched, length-answers, touches-searched, touches-unsearched, touches-nobody}
+use Rattle.sizes.proofs.size_step.Statement.{statement}
+use Rattle.sizes.proofs.size_step.Tie as tie
 
 returns : tie.Need-returns
 returns c =
@@ -31,6 +31,7 @@ returns c =
     record {
       spent = spend-within (touchesOfSize (b .args .words .now) (b .args .measure) (b .args .p) (b .args .q) (b .args .features .now) (b .args .y)) (b .args .budget) 0 (sym z) (omega arith);
       answers = λ e. b .pre .6 ∙ answers-skipped (b .args .words .now) (b .pre .0) (b .args .measure) (b .args .p) (b .args .q) (b .args .features .now) (b .pre .2) (b .args .y) (λ i h e. absurd (nobody (b .args .words .now) (b .pre .0) (b .args .measure) (b .args .p) (b .args .q) (b .args .features .now) (b .pre .2) (b .args .y) (present-none (b .args .words .now) (b .args .y) (sym (b .pre .5) ∙ c .if1 .taken)) i h e));
+      none = λ q. absurd (true≢false (sym q));
     }
 
 cast-x : tie.Need-cast-x
@@ -49,6 +50,7 @@ returns-2 c =
     record {
       spent = spend-within (touchesOfSize (b .args .words .now) (b .args .measure) (b .args .p) (b .args .q) (b .args .features .now) (b .args .y)) (b .args .budget) 0 (sym z) (omega arith);
       answers = λ e. b .pre .6 ∙ answers-skipped (b .args .words .now) (b .pre .0) (b .args .measure) (b .args .p) (b .args .q) (b .args .features .now) (b .pre .2) (b .args .y) (unsearched (b .args .words .now) (b .pre .0) (b .args .measure) (b .args .p) (b .args .q) (b .args .features .now) (b .pre .2) (b .args .y) (sym (c .before .searched .ensures) ∙ not-true _ (c .if2 .taken)));
+      none = λ q. absurd (true≢false (sym q));
     }
 
 least-count-requires : tie.Need-least-count-requires
@@ -105,6 +107,7 @@ returns-3 c =
           v .answers z
           ∙ ap₂ (λ (l : ℕ) (k : List ℕ). kept (remainTable (idsOf (b .args .words .now)) (listsFor (b .args .words .now) (b .args .y) f) l (laterCount (listsFor (b .args .words .now) (b .args .y) f) l)) k) e (b .pre .6)
           ∙ answers-searched (b .args .words .now) (b .pre .0) (b .args .measure) (b .args .p) (b .args .q) (b .args .features .now) (b .pre .2) (b .args .y) s low (omega arith);
+      none = λ z. (v .none z .0, v .none z .1 ∙ b .pre .6);
     }
 
 pub size-step-spec : {M : Type 1} → statement M

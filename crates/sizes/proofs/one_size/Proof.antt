@@ -1,7 +1,7 @@
 -- `one_size` meets its contract: where too few lists have ids nothing is due; otherwise the lists in order are the method's, and so are the
 -- touches of the two phases.
 use mathlib.Core.Path.{_≡_, refl, sym, ap, ap₂, subst, _∙_}
-use mathlib.Core.Bool.{false}
+use mathlib.Core.Bool.{false, true≢false}
 use mathlib.Core.List.{List, _++_}
 use Prim.Native.Nat.{ℕ, _+_, _≤_, _<_}
 use native.Mathlib.Omega.{arith}
@@ -14,13 +14,13 @@ use Rattle.laws.specs.Lists.{Ascending}
 use Rattle.index.specs.Good.{mostNames}
 use Rattle.candidates.specs.Method.{signatures, laterCount}
 use Rattle.candidates.specs.Tables.{Readable, cutLists, postingsOf, laterTouches, remainTable, kept, Walked}
-use Rattle.search.specs.Method.{listsFor, touchesAt}
-use Rattle.search.specs.Tables.{filledOf, idsOf, Asked, Sized}
+use Rattle.sizes.specs.Method.{listsFor, touchesAt}
+use Rattle.sizes.specs.Tables.{filledOf, idsOf, Asked, Sized}
 use Rattle.candidates.proofs.Spending.{spend-within}
-use Rattle.search.proofs.Size.{ids-few, ids-rise, length-keys, cut-lists, cut-readable, touches-at}
-use Rattle.search.proofs.EmptySignatures.{idle-touches, idle-answers}
-use Rattle.search.proofs.one_size.Statement.{statement}
-use Rattle.search.proofs.one_size.Tie as tie
+use Rattle.sizes.proofs.Size.{ids-few, ids-rise, length-keys, cut-lists, cut-readable, touches-at}
+use Rattle.sizes.proofs.EmptySignatures.{idle-touches, idle-answers}
+use Rattle.sizes.proofs.one_size.Statement.{statement}
+use Rattle.sizes.proofs.one_size.Tie as tie
 
 slice-aggregate-order-lists : tie.Need-slice-aggregate-order-lists
 slice-aggregate-order-lists c = search needs
@@ -46,6 +46,7 @@ returns c =
     record {
       spent = spend-within (touchesAt w y (listsFor w y f) (b .args .least)) (b .args .budget) 0 (sym z) (omega arith);
       answers = λ e. idle-answers w y f (b .pre .2) (b .args .least) (b .pre .3) (b .pre .4) few (b .args .answers .now) (b .pre .5);
+      none = λ q. absurd (true≢false (sym q));
     }
 
 array-share-prefix-keys : tie.Need-array-share-prefix-keys
@@ -122,6 +123,7 @@ returns-2 c =
     record {
       spent = rw h at (v .spent);
       answers = λ q. v .answers q ∙ ap₂ (λ (r : List (List ℕ)) (m : List ℕ). kept (remainTable m r (b .args .least) (laterCount r (b .args .least))) (b .args .answers .now)) ls e;
+      none = v .none;
     }
 
 pub one-size-spec : {M : Type 1} → statement M

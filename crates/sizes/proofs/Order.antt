@@ -19,9 +19,9 @@ use Rattle.laws.proofs.Sort.{above-members, ascending-nil, ascending-cons, asce
 use Rattle.laws.proofs.Ascending.{ascending-at}
 use Rattle.words.specs.Words.{featureSpan, keyOf}
 use Rattle.lists.specs.Lists.{listIn}
-use Rattle.search.specs.Method.{orderedFor, listsFor}
-use Rattle.search.specs.Tables.{smallKey}
-use Rattle.search.proofs.Laws.{Query}
+use Rattle.sizes.specs.Method.{orderedFor, listsFor}
+use Rattle.sizes.specs.Tables.{smallKey}
+use Rattle.sizes.proofs.Laws.{Query}
 
 -- ---- plain lists
 

@@ -25,11 +25,11 @@ use Rattle.candidates.specs.Method.{heldBy, signatures, remains, laterCount}
 use Rattle.candidates.specs.Tables.{kept, remainsAt, remainTable}
 use Rattle.candidates.proofs.Candidates.{held-all}
 use Rattle.candidates.proofs.Counts.{remain-those, remain-value, at-remains, at-absent}
-use Rattle.search.specs.Method.{namesOf, listsFor, touchesAt, sharedWith, sizesEnd, touchesOfSize, touchesOf, listed}
-use Rattle.search.specs.Tables.{idsOf, Asked, answeredAt, answersTable}
-use Rattle.search.proofs.Laws.{length-lists}
-use Rattle.search.proofs.Size.{length-ids, id-at, remains-size}
-use Rattle.search.proofs.Work.{touches-absent}
+use Rattle.sizes.specs.Method.{namesOf, listsFor, touchesAt, sharedWith, sizesEnd, touchesOfSize, touchesOf, listed}
+use Rattle.sizes.specs.Tables.{idsOf, Asked, answeredAt, answersTable}
+use Rattle.sizes.proofs.Laws.{length-lists}
+use Rattle.sizes.proofs.Size.{length-ids, id-at, remains-size}
+use Rattle.sizes.proofs.Work.{touches-absent}
 
 module _ (w : List ℕ) (good : Good w) (m p q : ℕ) (f : List ℕ) (a : Asked f) where
   -- names of another size

@@ -14,10 +14,10 @@ use Rattle.lists.specs.Lists.{listIn}
 use Rattle.lists.proofs.Spans.{span-count}
 use Rattle.words.specs.Words.{rowStart}
 use Rattle.index.proofs.Laws.{good-three, good-within, good-names-most}
-use Rattle.search.specs.Tables.{startOf, smallKey, filledOf}
-use Rattle.search.proofs.Work.{list-length}
-use Rattle.search.proofs.find_lists.Statement.{statement}
-use Rattle.search.proofs.find_lists.Tie as tie
+use Rattle.sizes.specs.Tables.{startOf, smallKey, filledOf}
+use Rattle.sizes.proofs.Work.{list-length}
+use Rattle.sizes.proofs.find_lists.Statement.{statement}
+use Rattle.sizes.proofs.find_lists.Tie as tie
 
 abbrev Inv-loop : tie.InvT-loop
 Inv-loop words features size starts₀ keys₀ rows first filled₀ j₀ starts keys filled j =

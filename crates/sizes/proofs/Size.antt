@@ -34,11 +34,11 @@ use Rattle.candidates.specs.Method.{signatures, signaturePostings, remains, lat
 use Rattle.candidates.specs.Tables.{cutAt, cutLists, Readable, remainsAt, laterTouches, postingsOf}
 use Rattle.candidates.proofs.Candidates.{remains-met}
 use Rattle.candidates.proofs.Counts.{length-cut, getD-cut}
-use Rattle.search.specs.Method.{listsFor, remaining, touchesAt}
-use Rattle.search.specs.Tables.{startOf, smallKey, idsOf, Asked}
-use Rattle.search.proofs.Laws.{Query, length-lists, held-features}
-use Rattle.search.proofs.Work.{list-length}
-use Rattle.search.proofs.Order.{smallKeys, length-small, kth-key}
+use Rattle.sizes.specs.Method.{listsFor, remaining, touchesAt}
+use Rattle.sizes.specs.Tables.{startOf, smallKey, idsOf, Asked}
+use Rattle.sizes.proofs.Laws.{Query, length-lists, held-features}
+use Rattle.sizes.proofs.Work.{list-length}
+use Rattle.sizes.proofs.Order.{smallKeys, length-small, kth-key}
 
 -- ---- the ids of the names
 

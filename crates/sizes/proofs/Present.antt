@@ -16,8 +16,8 @@ use Rattle.laws.proofs.Below.{sum-below-step}
 use Rattle.laws.proofs.Order.{le-or-lt}
 use Rattle.laws.proofs.Tables.{table-of, table-set}
 use Rattle.words.specs.Words.{nameCount, nameSize}
-use Rattle.search.specs.Method.{namesOf}
-use Rattle.search.specs.Tables.{presentAt}
+use Rattle.sizes.specs.Method.{namesOf}
+use Rattle.sizes.specs.Tables.{presentAt}
 
 -- ---- how many of the first k names have each size
 

@@ -17,7 +17,7 @@ use Rattle.index.specs.Good.{Good}
 use Rattle.index.proofs.Total.{names-same, id-same, size-same}
 use Rattle.lists.proofs.Total.{list-in-same}
 use Rattle.candidates.specs.Method.{heldBy, signaturePostings, remains, laterCount}
-use Rattle.search.specs.Method.{orderedFor, listsFor, remaining, touchesAt, sharedWith, sizesEnd, touchesOfSize, touchesOf, listed, answersBelow, answersOf}
+use Rattle.sizes.specs.Method.{orderedFor, listsFor, remaining, touchesAt, sharedWith, sizesEnd, touchesOfSize, touchesOf, listed, answersBelow, answersOf}
 
 module _ (w v : List ℕ) (same : take (total w) w ≡ take (total w) v) (long : total w ≤ length v) (good : Good w) (query : List ℕ) where
   -- the lists of a size, in their order

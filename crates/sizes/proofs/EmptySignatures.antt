@@ -27,11 +27,11 @@ use Rattle.lists.specs.Lists.{listIn}
 use Rattle.candidates.specs.Method.{heldBy, signatures, signaturePostings, remains, laterCount}
 use Rattle.candidates.specs.Tables.{remainsAt, remainTable, kept}
 use Rattle.candidates.proofs.Candidates.{no-holder, unmet}
-use Rattle.search.specs.Method.{listsFor, remaining, touchesAt}
-use Rattle.search.specs.Tables.{idsOf, smallKey, filledOf, Asked}
-use Rattle.search.proofs.Laws.{length-lists}
-use Rattle.search.proofs.Order.{smallKeys, small-ascending, length-small, kth-key}
-use Rattle.search.proofs.Size.{asked-query, asked-sorted}
+use Rattle.sizes.specs.Method.{listsFor, remaining, touchesAt}
+use Rattle.sizes.specs.Tables.{idsOf, smallKey, filledOf, Asked}
+use Rattle.sizes.proofs.Laws.{length-lists}
+use Rattle.sizes.proofs.Order.{smallKeys, small-ascending, length-small, kth-key}
+use Rattle.sizes.proofs.Size.{asked-query, asked-sorted}
 
 -- ---- plain lists
 

@@ -8,10 +8,10 @@ use Rattle.laws.specs.Lists.{tabulate}
 use Rattle.laws.proofs.Lists.{length-tabulate, tabulate-ext}
 use Rattle.words.specs.Words.{nameCount, nameSize}
 use Rattle.index.proofs.Laws.{good-three, good-within, good-names-most, good-name-within}
-use Rattle.search.specs.Tables.{presentAt}
-use Rattle.search.proofs.Present.{presentBy, present-nil, present-step, present-all}
-use Rattle.search.proofs.sizes_present.Statement.{statement}
-use Rattle.search.proofs.sizes_present.Tie as tie
+use Rattle.sizes.specs.Tables.{presentAt}
+use Rattle.sizes.proofs.Present.{presentBy, present-nil, present-step, present-all}
+use Rattle.sizes.proofs.sizes_present.Statement.{statement}
+use Rattle.sizes.proofs.sizes_present.Tie as tie
 
 abbrev Inv-loop : tie.InvT-loop
 Inv-loop words n table₀ i₀ table i =

@@ -12,9 +12,9 @@ use lib.Seq.{length-take-le}
 use Rattle.laws.specs.Lists.{tabulate}
 use Rattle.laws.specs.Sort.{sortOf}
 use Rattle.laws.proofs.Lists.{length-tabulate, getD-tabulate}
-use Rattle.search.specs.Tables.{startOf, smallKey, filledOf}
-use Rattle.search.proofs.order_lists.Statement.{statement}
-use Rattle.search.proofs.order_lists.Tie as tie
+use Rattle.sizes.specs.Tables.{startOf, smallKey, filledOf}
+use Rattle.sizes.proofs.order_lists.Statement.{statement}
+use Rattle.sizes.proofs.order_lists.Tie as tie
 
 find-lists-requires : tie.Need-find-lists-requires
 find-lists-requires c κs = search needs

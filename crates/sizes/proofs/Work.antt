@@ -35,8 +35,8 @@ use Rattle.lists.proofs.Laws.{good-ascending, good-named}
 use Rattle.names.specs.Features.{mostFeatures}
 use Rattle.candidates.specs.Method.{signatures, signaturePostings, remains, laterCount}
 use Rattle.candidates.proofs.Candidates.{remains-less}
-use Rattle.search.specs.Method.{namesOf, orderedFor, listsFor, remaining, touchesAt, sizesEnd, touchesOfSize, touchesOf}
-use Rattle.search.proofs.Laws.{count-map, count-ordered, length-lists, Query}
+use Rattle.sizes.specs.Method.{namesOf, orderedFor, listsFor, remaining, touchesAt, sizesEnd, touchesOfSize, touchesOf}
+use Rattle.sizes.proofs.Laws.{count-map, count-ordered, length-lists, Query}
 
 -- ---- the names of one size
 

@@ -2,13 +2,13 @@
 -- The tables of the candidates: specs/Tables.antt of `candidates`.
 -- Assumes nothing.
 use mathlib.Core.Path.{_≡_}
-use mathlib.Core.Bool.{Bool, false, cond, _&&_}
-use mathlib.Core.List.{List, [], _∷_, _++_}
-use Prim.Native.Nat.{ℕ, zero, suc, _+_, _*_, _≤_, _<_}
+use mathlib.Core.Bool.{Bool, true, false, cond, _&&_}
+use mathlib.Core.List.{List}
+use Prim.Native.Nat.{ℕ, _+_, _*_, _≤_, _<_}
 use lib.ListN.{length, getD}
 use lib.Dec.{leb, ltb}
 use Rattle.laws.specs.Lists.{Ascending, tabulate}
-use Rattle.laws.specs.Below.{countBelow}
+use Rattle.laws.specs.Below.{sumBelow, countBelow}
 use Rattle.laws.specs.Each.{Each}
 use Rattle.names.specs.Features.{mostFeatures}
 use Rattle.words.specs.Words.{nameCount, nameId, nameSize, featureSpan}
@@ -17,7 +17,7 @@ use Rattle.lists.specs.Lists.{spanIn, listIn}
 use Rattle.candidates.specs.Method.{laterCount}
 use Rattle.candidates.specs.Spending.{Spending}
 use Rattle.candidates.specs.Tables.{kept, remainTable}
-use Rattle.search.specs.Method.{namesOf, listsFor, touchesAt, sharedWith, sizesEnd, touchesOfSize, touchesOf, listed}
+use Rattle.sizes.specs.Method.{namesOf, listsFor, touchesAt, sharedWith, sizesEnd, touchesOfSize, touchesOf, listed}
 
 -- ---- the names
 
@@ -45,10 +45,12 @@ filledOf w y features n = countBelow n (λ (j : ℕ). ltb 255 (smallKey w y feat
 
 -- ---- one size
 
--- what one size comes to: the answers hold the counts of those left at their places
+-- what one size comes to: the answers hold the counts of those left at their places; past the budget no touch is reported and no answer is
+-- changed
 pub record Sized (w : List ℕ) (y : ℕ) (features : List ℕ) (t budget : ℕ) (before after : List ℕ) (past : Bool) (touches : ℕ) : Type 0 where
   pub spent : Spending (touchesAt w y (listsFor w y features) t) budget past touches
   pub answers : past ≡ false → after ≡ kept (remainTable (idsOf w) (listsFor w y features) t (laterCount (listsFor w y features) t)) before
+  pub none : past ≡ true → (touches ≡ 0) × (after ≡ before)
 
 -- the features as the code has them: ascending, some and not too many, each below the span
 pub record Asked (features : List ℕ) : Type 0 where
@@ -67,17 +69,17 @@ answeredAt w m p q features y i = ltb i (nameCount w) && (ltb (nameSize w i) y &
 unfoldable pub answersTable : List ℕ → ℕ → ℕ → ℕ → List ℕ → ℕ → List ℕ
 answersTable w m p q features y = tabulate (λ (i : ℕ). cond (answeredAt w m p q features y i) (sharedWith w features i) 0) mostNames
 
--- after size y: the answers are those of the sizes up to y
+-- after size y: the answers are those of the sizes up to y, or past the budget those of the sizes below it
 pub record Stepped (w : List ℕ) (m p q : ℕ) (features : List ℕ) (y budget : ℕ) (after : List ℕ) (past : Bool) (touches : ℕ) : Type 0 where
   pub spent : Spending (touchesOfSize w m p q features y) budget past touches
   pub answers : past ≡ false → after ≡ answersTable w m p q features (y + 1)
+  pub none : past ≡ true → (touches ≡ 0) × (after ≡ answersTable w m p q features y)
 
--- after all sizes
+-- after all sizes: their answers, or past the budget those of the sizes below the one that no longer fits, and no touch is reported
 pub record Covered (w : List ℕ) (m p q : ℕ) (features : List ℕ) (budget : ℕ) (after : List ℕ) (past : Bool) (touches : ℕ) : Type 0 where
   pub spent : Spending (touchesOf w m p q features) budget past touches
   pub answers : past ≡ false → after ≡ answersTable w m p q features sizesEnd
-
--- the places below n whose count is at least 1, in order
-unfoldable pub placesIn : List ℕ → ℕ → List ℕ
-placesIn answers zero = []
-placesIn answers (suc k) = placesIn answers k ++ cond (leb 1 (getD answers k 0)) (k ∷ []) []
+  pub none : past ≡ true → touches ≡ 0
+  pub stopped : past ≡ true
+      → (y : ℕ) × (sumBelow y (touchesOfSize w m p q features) ≤ budget) × (budget < sumBelow (y + 1) (touchesOfSize w m p q features))
+      × (after ≡ answersTable w m p q features y)
