@@ -1,21 +1,22 @@
 -- Laws of names and their features that the layers above cite: how many features a name has, that they are all different,
 -- that each fits 32 bits, how equal grams are numbered. Laws of shared features are in Shared.antt.
 -- Assumes nothing.
-use mathlib.Core.Path.{_≡_, refl, sym, ap, ap₂, _∙_}
+use mathlib.Core.Path.{_≡_, refl, sym, ap, _∙_}
 use mathlib.Core.Logic.{⊎-elim}
-use mathlib.Core.Bool.{Bool, true, false, cond}
-use mathlib.Core.List.{List, [], _∷_, _++_}
+use mathlib.Core.Bool.{true, false}
+use mathlib.Core.List.{List, []}
 use Prim.Native.Nat.{ℕ, zero, suc, _+_, _-_, _*_, _/_, _%_, _^_, _≤_, _<_}
 use native.Mathlib.Nat.{mul-le-mul-right, suc-mul, pow-zero, pow-suc}
 use native.Mathlib.Omega.{arith}
 use lib.ListN.{length, getD, List·getD-eq-default}
 use lib.Dec.{eqb, ltb, lit<}
-use borrow.Author.Tests.{eq-eqb, ne-eqb, eqb-true, eqb-false, lt-ltb, le-ltb, ltb-true, ltb-false}
-use Rattle.laws.specs.Lists.{member, Distinct, tabulate}
-use Rattle.laws.specs.Cases.{firstCase}
+use borrow.Author.Tests.{eq-eqb, ne-eqb, eqb-false, lt-ltb, le-ltb, ltb-false}
+use Rattle.laws.specs.Lists.{member, Distinct}
+use Rattle.laws.specs.Cases.{firstCase, allNumbers, allNumbered}
 use Rattle.laws.proofs.Lists.{distinct-nil, length-tabulate, getD-tabulate, distinct-tabulate}
+use Rattle.laws.proofs.Cases.{first-passed}
 use Rattle.laws.proofs.Order.{le-or-lt, eq-or-ne}
-use Rattle.names.specs.Names.{longest, judgeOf}
+use Rattle.names.specs.Names.{longest, nameCases, judgeOf}
 use Rattle.names.specs.Features.{padded, joined, gramAt, sizeOf, timesIn, numberAt, numbers, numbered, featuresBy, gramLength, characters, mostFeatures, featuresOf}
 use Rattle.names.proofs.Lemmas.{times-met, times-passed, number-within, gram-of, pad-low, pad-at}
 
@@ -29,28 +30,29 @@ pub judge-long : (s : List ℕ) → longest < length s → judgeOf s ≡ 2
 unfolding judgeOf firstCase
 judge-long s h = rw (ne-eqb (length s) 0 (λ e. omega arith), lt-ltb longest (length s) h)
 
-pub judge-zero : (s : List ℕ) → (length s ≡ 0 → ⊥) → length s ≤ longest → member 0 s ≡ true → judgeOf s ≡ 3
-unfolding judgeOf firstCase
-judge-zero s n h z = rw (ne-eqb (length s) 0 n, le-ltb longest (length s) h, z)
+module _ (s : List ℕ) (some : length s ≡ 0 → ⊥) (short : length s ≤ longest) where
+  pub judge-zero : member 0 s ≡ true → judgeOf s ≡ 3
+  unfolding judgeOf firstCase
+  judge-zero z = rw (ne-eqb (length s) 0 some, le-ltb longest (length s) short, z)
 
-pub judge-good : (s : List ℕ) → (length s ≡ 0 → ⊥) → length s ≤ longest → member 0 s ≡ false → judgeOf s ≡ 0
-unfolding judgeOf firstCase
-judge-good s n h z = rw (ne-eqb (length s) 0 n, le-ltb longest (length s) h, z)
+  pub judge-good : member 0 s ≡ false → judgeOf s ≡ 0
+  unfolding judgeOf firstCase
+  judge-good z = rw (ne-eqb (length s) 0 some, le-ltb longest (length s) short, z)
 
--- what a name that is judged 0 is
+-- what a name that is judged 0 is: no case applies
 pub good-name : (s : List ℕ) → judgeOf s ≡ 0 → (1 ≤ length s) × (length s ≤ longest) × (member 0 s ≡ false)
-unfolding judgeOf firstCase
-good-name s g = by-tests (eqb (length s) 0) refl (ltb longest (length s)) refl (member 0 s) refl g
-  where
-    by-tests : (a : Bool) → eqb (length s) 0 ≡ a → (b : Bool) → ltb longest (length s) ≡ b → (z : Bool) → member 0 s ≡ z
-        → _≡_ {A = ℕ} (cond a 1 (cond b 2 (cond z 3 0))) 0 → (1 ≤ length s) × (length s ≤ longest) × (z ≡ false)
-    by-tests true p b q z r h = absurd (omega arith)
-    by-tests false p true q z r h = absurd (omega arith)
-    by-tests false p false q true r h = absurd (omega arith)
-    by-tests false p false q false r h =
-        let n : length s ≡ 0 → ⊥ = eqb-false (length s) 0 p in
-        let l : length s ≤ longest = ltb-false longest (length s) q in
-        (omega arith, l, refl)
+unfolding judgeOf
+good-name s g =
+    let empty = first-passed 1 (eqb (length s) 0) _ (λ e. omega arith) g in
+    let long = first-passed 2 (ltb longest (length s)) _ (λ e. omega arith) (empty .1) in
+    let zeros = first-passed 3 (member 0 s) _ (λ e. omega arith) (long .1) in
+    let some = eqb-false (length s) 0 (empty .0) in
+    (omega arith, ltb-false longest (length s) (long .0), zeros .0)
+
+-- no refusal of a name has the number 0: a list of cases may put its own after them
+pub names-numbered : (s : List ℕ) → allNumbered (nameCases s) ≡ true
+unfolding allNumbers
+names-numbered s = refl
 
 -- ---- how equal values are numbered
 

@@ -5,16 +5,17 @@ use mathlib.Core.Bool.{Bool, true, false, cond, not}
 use mathlib.Core.List.{List, [], _∷_, _++_}
 use Prim.Native.Nat.{ℕ, _≤_, _<_}
 use native.Mathlib.Omega.{arith}
-use borrow.Author.Tests.{eq-eqb, ne-eqb, lt-ltb, le-ltb, le-leb, lt-leb, eqb-true, eqb-false, ltb-false, leb-false}
-use lib.ListN.{length, getD, take, drop, length-append, length-drop}
+use borrow.Author.Tests.{eq-eqb, lt-ltb, le-ltb, le-leb, lt-leb, ltb-false, leb-false}
+use lib.ListN.{length, getD, take, drop, length-append}
 use lib.Seq.{take-append-seam}
-use lib.Dec.{eqb, ltb, leb}
-use Rattle.laws.specs.Cases.{Case, case, firstCase, allNumbers, allNumbered}
+use lib.Dec.{ltb, leb}
+use Rattle.laws.specs.Cases.{Case, case, firstCase}
 use Rattle.laws.proofs.Cases.{not-false, first-here, first-next, first-passed, first-front, first-behind, first-split}
 use Rattle.names.specs.Names.{nameCases, judgeOf}
+use Rattle.names.proofs.Laws.{names-numbered}
 use Rattle.fields.specs.declared.Reading.{Reading}
 use Rattle.fields.specs.Layouts.{isFrame, readOf, bufferOf, acceptedAs, refusedWith}
-use Rattle.fields.proofs.Laws.{read-roomy, read-fits}
+use Rattle.fields.proofs.Laws.{read-roomy}
 use Rattle.frames.specs.declared.NameRead.{NameRead}
 use Rattle.frames.specs.Frames.{nameFrame, nameOut}
 use Rattle.index.specs.Good.{mostNames}
@@ -26,10 +27,6 @@ use Rattle.register.specs.Steps.{Heard}
 -- the cases of a line behind those of its name
 behind : ℕ → ℕ → List ℕ → List Case
 behind count next line = case 9 (ltb (idIn line) next) ∷ case 10 (leb mostNames count) ∷ []
-
-names-numbered : (s : List ℕ) → allNumbered (nameCases s) ≡ true
-unfolding allNumbers
-names-numbered s = refl
 
 pub judged-malformed : (count next : ℕ) (line : List ℕ) → isFrame nameFrame line ≡ false → judgeLine count next line ≡ 11
 unfolding judgeLine

@@ -13,6 +13,7 @@ use Rattle.laws.specs.Cases.{Case, case, firstCase, allNumbers, allNumbered}
 use Rattle.laws.proofs.Cases.{not-false, first-here, first-next, first-passed, first-front, first-behind, first-split}
 use Rattle.names.specs.Names.{nameCases, judgeOf}
 use Rattle.names.specs.Features.{featuresOf}
+use Rattle.names.proofs.Laws.{names-numbered}
 use Rattle.likeness.specs.Measures.{goodMeasure, goodThreshold}
 use Rattle.likeness.specs.Terms.{lowestTerms}
 use Rattle.index.specs.Good.{goodOf}
@@ -61,10 +62,6 @@ searched-refused s m p q allowance w c number touches e =
 -- the cases of a question after those of its query
 behind : ℕ → ℕ → ℕ → List Case
 behind m p q = case 4 (not (goodMeasure m)) ∷ case 5 (not (goodThreshold p q)) ∷ []
-
-names-numbered : (s : List ℕ) → allNumbered (nameCases s) ≡ true
-unfolding allNumbers
-names-numbered s = refl
 
 questions-numbered : (s : List ℕ) (m p q : ℕ) → allNumbered (questionCases s m p q) ≡ true
 unfolding allNumbers
