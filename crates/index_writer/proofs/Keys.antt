@@ -1,9 +1,8 @@
 -- Keys read back: the size, the feature and the id of a posting, and which postings are of one row.
 -- Assumes nothing.
 use mathlib.Core.Path.{_≡_, refl, sym, ap, ap₂, _∙_}
-use mathlib.Core.Bool.{Bool, true, not}
 use mathlib.Core.List.{List, [], _∷_, _++_, map, append-nil, append-assoc}
-use Prim.Native.Nat.{ℕ, zero, suc, _+_, _*_, _-_, _/_, _%_, _≤_, _<_}
+use Prim.Native.Nat.{ℕ, suc, _+_, _*_, _/_, _%_, _<_}
 use native.Mathlib.Nat.{add-zero}
 use native.Mathlib.Omega.{arith}
 use borrow.Author.Tests.{eq-eqb, eqb-true}
@@ -11,15 +10,11 @@ use lib.ListN.{length, getD, length-append, length-map}
 use lib.Seq.{ext-getD}
 use lib.Dec.{eqb}
 use Rattle.laws.proofs.Tests.{same-test}
+use Rattle.laws.proofs.Images.{getD-map-lt}
 use Rattle.words.specs.Words.{featureSpan, keyOf}
 use Rattle.index_writer.specs.Built.{Entry, idSpan, tripleOf, triplesOf, allTriples}
-use Rattle.index_writer.specs.Keys.{placeSpan, wordAt, sizeAt, featureAt, idAt, tripleAt, triplesAt, keysOf, keysFrom, Keyed}
-use Rattle.index_writer.specs.Steps.{runKey, begins}
-
-pub getD-map-lt : {A B : Type 0} (f : A → B) (l : List A) (k : ℕ) (d : A) (e : B) → k < length l → getD (map f l) k e ≡ f (getD l k d)
-getD-map-lt f [] k d e h = absurd (omega arith)
-getD-map-lt f (x ∷ l) zero d e h = refl
-getD-map-lt f (x ∷ l) (suc k) d e h = getD-map-lt f l k d e (omega arith)
+use Rattle.index_writer.specs.Keys.{placeSpan, sizeAt, featureAt, idAt, tripleAt, triplesAt, keysOf, keysFrom, Keyed}
+use Rattle.index_writer.specs.Steps.{runKey}
 
 module _ {names keys : List ℕ} (q : Keyed names keys) (i : ℕ) (h : i < length keys) where
   pub triple-at : getD (triplesAt names keys) i 0 ≡ tripleAt names (getD keys i 0)

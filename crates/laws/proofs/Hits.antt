@@ -1,21 +1,19 @@
 -- Counting a list by an enumeration of what it holds: where a sequence has no value twice and meets every element of a list without repeats,
 -- it meets as many as the list is long. Cited by `lists`.
 -- Assumes nothing.
-use mathlib.Core.Path.{_≡_, refl, sym, ap, ap₂, _∙_}
+use mathlib.Core.Path.{_≡_, refl, sym, ap, _∙_}
 use mathlib.Core.Logic.{⊎-elim}
 use mathlib.Core.Bool.{Bool, true, false, cond, _||_, true≢false, or-true}
 use mathlib.Core.List.{List, [], _∷_}
 use Prim.Native.Nat.{ℕ, zero, suc, _+_, _≤_, _<_}
 use native.Mathlib.Nat.{eq-or-lt-of-le}
 use native.Mathlib.Omega.{arith}
-use lib.ListN.{length, getD}
+use lib.ListN.{length}
 use lib.Dec.{eqb}
-use borrow.Author.Tests.{eq-eqb, ne-eqb, eqb-true}
-use Rattle.laws.specs.Lists.{member, Distinct, Ascending}
+use borrow.Author.Tests.{eq-eqb, eqb-true}
+use Rattle.laws.specs.Lists.{member, Distinct}
 use Rattle.laws.specs.Below.{sumBelow, countBelow}
 use Rattle.laws.proofs.Lists.{eqb-same}
-use Rattle.laws.proofs.Ascending.{ascending-at, member-nowhere}
-use Rattle.laws.proofs.Order.{le-or-lt}
 
 -- ---- counts below a bound
 
@@ -64,12 +62,6 @@ count-below-either (suc n) t u h = by-tests (t n) refl (u n) refl (count-below-e
     by-tests false p false q k = omega arith
 
 -- ---- a list, by a sequence
-
-pub ascending-distinct : (l : List ℕ) → Ascending l → Distinct l
-unfolding Ascending Distinct
-ascending-distinct [] a = tt
-ascending-distinct (x ∷ l) a =
-    (member-nowhere x l (λ i h e. let u = ascending-at (x ∷ l) a 0 (suc i) (omega arith) (omega arith) in omega arith), ascending-distinct l (a .1))
 
 pub count-hits : (n : ℕ) (f : ℕ → ℕ) → ((i j : ℕ) → i < n → j < n → f i ≡ f j → i ≡ j)
     → (l : List ℕ) → Distinct l → ((x : ℕ) → member x l ≡ true → (i : ℕ) × (i < n) × (f i ≡ x))

@@ -14,3 +14,4 @@ pub mod FirstFound
 pub mod Sums
 pub mod Hits
 pub mod Cases
+pub mod Parts

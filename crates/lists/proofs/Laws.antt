@@ -18,7 +18,8 @@ use Rattle.laws.proofs.Below.{and-both, and-left, and-right, sum-below-le}
 use Rattle.laws.proofs.FirstFound.{first-found, first-is}
 use Rattle.laws.proofs.Order.{le-or-lt}
 use Rattle.laws.proofs.Tests.{same-test, test-fails}
-use Rattle.laws.proofs.Hits.{ascending-distinct, count-hits}
+use Rattle.laws.proofs.Sort.{ascending-distinct}
+use Rattle.laws.proofs.Hits.{count-hits}
 use Rattle.names.specs.Shared.{sharedOf}
 use Rattle.names.proofs.Shared.{shared-le-right}
 use Rattle.words.specs.Words.{nameCount, rowCount, nameId, nameSize, rowSize, rowFeature, rowLength, listAt}

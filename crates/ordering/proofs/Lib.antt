@@ -1,4 +1,3 @@
 pub mod Picks
 pub mod Sorted
-pub mod Parts
 pub mod Ordered

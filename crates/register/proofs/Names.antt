@@ -1,13 +1,14 @@
 -- What the words of an accepted build hold, in the register's own terms: the ids and the sizes of its lines in order, and for each name its own features.
 -- Line i is counted from 0. For who searches what was built.
 -- Assumes nothing.
-use mathlib.Core.Path.{_≡_, refl, sym, ap, ap₂, subst, _∙_}
+use mathlib.Core.Path.{_≡_, sym, ap, ap₂, subst, _∙_}
 use mathlib.Core.Bool.{true}
-use mathlib.Core.List.{List, [], _∷_, _++_, map}
-use Prim.Native.Nat.{ℕ, zero, suc, _+_, _-_, _<_}
+use mathlib.Core.List.{List, [], _++_, map}
+use Prim.Native.Nat.{ℕ, _+_, _-_, _<_}
 use native.Mathlib.Omega.{arith}
 use lib.ListN.{length, getD, take, replicate, length-map}
 use Rattle.laws.specs.Lists.{member}
+use Rattle.laws.proofs.Images.{getD-map-lt}
 use Rattle.names.specs.Names.{judgeOf}
 use Rattle.names.specs.Features.{featuresOf}
 use Rattle.names.proofs.Laws.{length-features}
@@ -17,15 +18,10 @@ use Rattle.index_writer.specs.Built.{Entry, noEntry, Fit, wordsOf}
 use Rattle.index_writer.proofs.Built.{built-name-count, built-id, built-size, built-list, built-listed, built-features}
 use Rattle.lines.specs.Lines.{linesOf, nthLine}
 use Rattle.index_writer.specs.Written.{blank, padTo}
-use Rattle.register.specs.Build.{idIn, nameOf, judgeNth, entryOf, nextId, takenOf, entriesOf, builtOf, wordsAfter}
+use Rattle.register.specs.Build.{idIn, nameOf, entryOf, nextId, entriesOf, builtOf, wordsAfter}
 use Rattle.register.proofs.Judging.{good-line}
 use Rattle.register.proofs.First.{none-bad, each-good}
 use Rattle.register.proofs.Laws.{fit-register, accepted-lines, accepted-words}
-
-at-entry : (ls : List (List ℕ)) (i : ℕ) → i < length ls → getD (map entryOf ls) i noEntry ≡ entryOf (getD ls i [])
-at-entry [] i h = absurd (omega arith)
-at-entry (l ∷ ls) zero h = refl
-at-entry (l ∷ ls) (suc i) h = at-entry ls i (omega arith)
 
 module _ (register words : List ℕ) (accepted : builtOf register (length words) .number ≡ 0) where
   -- the names are those of the lines, one for each, in order
@@ -54,7 +50,7 @@ module _ (register words : List ℕ) (accepted : builtOf register (length words)
   within i h = let n = length-map (linesOf register) entryOf in omega arith
 
   entry : (i : ℕ) → i < length (linesOf register) → getD (map entryOf (linesOf register)) i noEntry ≡ entryOf (nthLine register i)
-  entry i h = at-entry (linesOf register) i h
+  entry i h = getD-map-lt entryOf (linesOf register) i [] noEntry h
 
   -- as many names as lines
   pub accepted-count : nameCount (wordsAfter register words) ≡ length (linesOf register)

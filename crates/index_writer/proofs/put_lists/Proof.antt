@@ -1,13 +1,13 @@
 -- `put_lists` meets its contract: after i turns, the ids of the first i postings are there.
 use mathlib.Core.Path.{_≡_, refl, sym, ap, ap₂, _∙_}
-use mathlib.Core.List.{List, [], _∷_, _++_, map}
-use Prim.Native.Nat.{ℕ, suc, _+_, _*_, _-_, _/_, _%_, _≤_, _<_}
+use mathlib.Core.List.{List, map}
+use Prim.Native.Nat.{ℕ, _-_, _/_, _≤_}
 use native.Mathlib.Omega.{arith}
 use lib.ListN.{length, getD, set, length-set, length-map}
 use Rattle.laws.proofs.Tables.{tableOver, over-nil, over-step}
 use Rattle.index_writer.specs.Keys.{idAt}
 use Rattle.index_writer.proofs.Over.{over-all}
-use Rattle.index_writer.proofs.Keys.{getD-map-lt}
+use Rattle.laws.proofs.Images.{getD-map-lt}
 use Rattle.index_writer.proofs.put_lists.Statement.{statement}
 use Rattle.index_writer.proofs.put_lists.Tie as tie
 
