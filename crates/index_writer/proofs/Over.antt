@@ -1,4 +1,4 @@
--- A table written over the whole of a list, and four words one behind the other. Assumes nothing.
+-- A table written over the whole of a list, and four words one after the other. Assumes nothing.
 use mathlib.Core.Path.{_≡_, sym, ap, _∙_}
 use mathlib.Core.List.{List, [], _∷_, _++_, append-nil}
 use Prim.Native.Nat.{ℕ, suc, _+_, _<_}
@@ -15,7 +15,7 @@ over-all f l r d e same =
     ∙ append-nil (tabulate f (length l))
     ∙ sym (tabulate-of f (length l) d r e same)
 
--- four stores one behind the other
+-- four stores one after the other
 pub four-sets : (l : List ℕ) (at a b c d : ℕ) → set (set (set (set l at a) (at + 1) b) (at + 2) c) (at + 3) d ≡ sets l at (a ∷ b ∷ c ∷ d ∷ [])
 four-sets l at a b c d =
     let p : at + 1 ≡ suc at = omega arith in

@@ -18,7 +18,7 @@ mid-end a k xs ys h =
     ap (λ (t : List ℕ). take a xs ++ (ys ++ t)) (drop-drop k a xs ∙ drop-of-length-le xs {i = a + k} h)
     ∙ ap (λ (t : List ℕ). take a xs ++ t) (append-nil ys)
 
--- what is left of the words behind the first a
+-- what is left of the words after the first a
 pub length-mid : (a k : ℕ) (xs : List ℕ) → k ≡ length xs - a → length (take k (drop a xs)) ≡ length xs - a
 length-mid a k xs e = let d = length-drop a xs in length-take-le k (drop a xs) (omega arith) ∙ e
 
@@ -63,7 +63,7 @@ unfolding wordsFrom
 from-parts names ks =
     ap₂ (λ (p : ℕ) (l : List ℕ). length names ∷ length (runsOf ks) ∷ p ∷ (names ++ (rowWords 0 (runsOf ks) ++ l))) (sym (length-runs ks)) (sym (lists-runs ks))
 
--- rows at the start of a part, lists behind them, blanks behind both
+-- rows at the start of a part, lists after them, blanks after both
 pub tail-put : (words r lists blanks : List ℕ) (room rows p k m : ℕ) → length r ≡ room → room + p ≡ length words → rows ≤ room → length lists ≡ p → k ≡ p
     → m ≡ length (putMid rows k (r ++ drop room words) lists) - (rows + p)
     → blanks ≡ replicate (length (take m (drop (rows + p) (putMid rows k (r ++ drop room words) lists)))) blank
@@ -98,7 +98,7 @@ tail-put words r lists blanks room rows p k m hr hw h hl ek em eb =
         let e = short in
         omega arith
 
--- rows, lists and blanks put behind the names, and the head before these: the index and blanks
+-- rows, lists and blanks put after the names, and the head before these: the index and blanks
 pub index-put : (names ts words tail : List ℕ) (d p m room : ℕ) → 3 + length names ≤ length words → m ≡ length words - (3 + length names) → d ≡ length (runsOf ts) → p ≡ length ts
     → room ≡ length words - (3 + length names) → tail ≡ padTo room (rowWords 0 (runsOf ts) ++ map (λ (k : ℕ). k % idSpan) ts)
     → length names ∷ d ∷ p ∷ (names ++ drop (3 + length names) (putMid (3 + length names) m words tail)) ≡ padTo (length words) (wordsFrom names (runsOf ts))

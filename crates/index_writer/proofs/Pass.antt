@@ -13,7 +13,7 @@ use Rattle.laws.proofs.Order.{eq-or-ne}
 use Rattle.index_writer.specs.Built.{Row, idSpan, oneRow, longerRow, joinRow, runsOf}
 use Rattle.index_writer.proofs.Runs.{join-nil, join-same, join-other}
 
--- ---- what stands behind the first row does not matter to a posting in front
+-- ---- what stands after the first row does not matter to a posting in front
 
 join-append : (k : ℕ) (r : Row) (rs xs : List Row) → joinRow k ((r ∷ rs) ++ xs) ≡ joinRow k (r ∷ rs) ++ xs
 join-append k r rs xs =

@@ -20,7 +20,7 @@ unfoldable pub begins : List ℕ → ℕ → Bool
 begins ks zero = true
 begins ks (suc j) = not (eqb (getD ks j 0 / idSpan) (getD ks (suc j) 0 / idSpan))
 
--- the words with a new row behind d others; as they were where there is no room
+-- the words with a new row after d others; as they were where there is no room
 unfoldable pub newRow : ℕ → ℕ → ℕ → List ℕ → ℕ → List ℕ
 newRow size feature place out d =
     cond (leb (rowWidth * d + 4) (length out)) (sets out (rowWidth * d) (size ∷ feature ∷ place ∷ 1 ∷ [])) out

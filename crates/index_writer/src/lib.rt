@@ -46,7 +46,7 @@ fn begins_row(names: &[u32], keys: &[u64], i: usize) -> bool
 
 // ---- the rows
 
-// Puts the four words of a row behind d others, where there is room for it: size, feature, the place of its list, and a count of 1.
+// Puts the four words of a row after d others, where there is room for it: size, feature, the place of its list, and a count of 1.
 fn new_row(size: u32, feature: u32, place: u32, out: &mut [u32], d: usize)
     requires { ⌜ d ≤ mostPostings ⌝ }
     ensures { λ _. ⌜ now (out .exit) ≡ newRow size feature place (now (out .entry)) d ⌝ }
@@ -145,7 +145,7 @@ fn put_lists(names: &[u32], keys: &[u64], out: &mut [u32])
     }
 }
 
-// Puts the rows of postings in order, their lists behind them, and sets what is beyond, where all of it fits. Answers how many rows there are.
+// Puts the rows of postings in order, their lists after them, and sets what is beyond, where all of it fits. Answers how many rows there are.
 fn put_tail(names: &[u32], keys: &[u64], words: &mut [u32]) -> usize
     requires { ⌜ Keyed (now names) (now keys) × (length (now keys) ≤ length (now words)) ⌝ }
     ensures { λ r. ⌜ (r ≡ length (runsOf (triplesAt (now (names .entry)) (now (keys .entry))))) × (rowWidth * r + length (now (keys .entry)) ≤ length (now (words .entry)) → now (words .exit) ≡ padTo (length (now (words .entry))) (rowWords 0 (runsOf (triplesAt (now (names .entry)) (now (keys .entry)))) ++ map (idAt (now (names .entry))) (now (keys .entry)))) ⌝ }

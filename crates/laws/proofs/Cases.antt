@@ -1,4 +1,4 @@
--- Laws of a judgement by cases: the first case, and one list of cases behind another.
+-- Laws of a judgement by cases: the first case, and one list of cases after another.
 -- Assumes nothing.
 use mathlib.Core.Path.{_≡_, refl, sym, ap, _∙_}
 use mathlib.Core.Bool.{Bool, true, false, cond, not, _&&_, false≢true}
@@ -24,7 +24,7 @@ module _ (n : ℕ) (b : Bool) (cs : List Case) where
   unfolding firstCase
   first-next e = rw e
 
-  -- where nothing applies, the first case does not, and none behind it
+  -- where nothing applies, the first case does not, and none after it
   pub first-passed : (n ≡ 0 → ⊥) → firstCase (case n b ∷ cs) ≡ 0 → (b ≡ false) × (firstCase cs ≡ 0)
   unfolding firstCase
   first-passed z = by-test b
@@ -33,7 +33,7 @@ module _ (n : ℕ) (b : Bool) (cs : List Case) where
       by-test true e = absurd (z e)
       by-test false e = (refl, e)
 
--- ---- one list behind another
+-- ---- one list after another
 
 numbered-first : (c : Case) (cs : List Case) → allNumbered (c ∷ cs) ≡ true → (c .number ≡ 0 → ⊥) × (allNumbered cs ≡ true)
 unfolding allNumbers

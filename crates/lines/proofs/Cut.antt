@@ -1,4 +1,4 @@
--- Text cut at its line feeds: lines that were put one behind the other come apart again, and a text that breaks off has fewer of them that end.
+-- Text cut at its line feeds: lines that were put one after the other come apart again, and a text that breaks off has fewer of them that end.
 -- Assumes nothing.
 use mathlib.Core.Path.{_≡_, refl, sym, ap, subst, _∙_}
 use mathlib.Core.Logic.{_⊎_, ⊎-elim}
@@ -38,7 +38,7 @@ pub first-cut : (l rest : List ℕ) → Line l → linesOf (l ++ rest) ≡ l ∷
 first-cut l rest h =
     ap (λ (x : List ℕ). linesOf (x ++ rest)) (h .ended) ∙ feed-cut (h .text) rest (h .plain) ∙ ap (λ (x : List ℕ). x ∷ linesOf rest) (sym (h .ended))
 
--- lines, one behind the other, and more
+-- lines, one after the other, and more
 pub lines-cut : (ls : List (List ℕ)) (rest : List ℕ) → Each Line ls → linesOf (joined ls ++ rest) ≡ ls ++ linesOf rest
 unfolding joined Each
 lines-cut [] rest h = refl

@@ -75,7 +75,7 @@ pub lines-step : (s : List ℕ) → 0 < length s → linesOf s ≡ take (lineLen
 lines-step [] h = absurd (omega arith)
 lines-step (b ∷ s) h = line-front b s (lines-step s)
 
--- the line at a place, and those behind it
+-- the line at a place, and those after it
 pub lines-at : (s : List ℕ) (at end : ℕ) → at < length s → end ≡ at + lineLength (drop at s)
     → linesOf (drop at s) ≡ take (end - at) (drop at s) ∷ linesOf (drop end s)
 lines-at s at end h e =

@@ -1,4 +1,4 @@
--- The lines of bytes, which are cut behind each line feed. A last stretch without a line feed is a line too; no line follows a final line feed.
+-- The lines of bytes, which are cut after each line feed. A last stretch without a line feed is a line too; no line follows a final line feed.
 -- Assumes nothing.
 use mathlib.Core.Bool.{cond}
 use mathlib.Core.List.{List, [], _∷_, _++_}
@@ -28,7 +28,7 @@ lineLength (b ∷ s) = let n = lineLength s in 1 + cond (eqb b lineFeed) 0 n
 abbrev pub nthLine : List ℕ → ℕ → List ℕ
 nthLine s i = getD (linesOf s) i []
 
--- lines, or any lists, one behind the other; nothing of no lists
+-- lines, or any lists, one after the other; nothing of no lists
 unfoldable pub joined : {A : Type 0} → List (List A) → List A
 joined [] = []
 joined (l ∷ ls) = l ++ joined ls

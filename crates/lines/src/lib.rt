@@ -4,7 +4,7 @@ ghost use Prim.Native.Nat.{_+_};
 ghost use lib.ListN.{drop};
 ghost use Rattle.lines.specs.Lines.{lineLength};
 
-// Where the line that starts at `from` ends: behind its line feed, or at the end of the bytes. Beyond their end it is `from`.
+// Where the line that starts at `from` ends: after its line feed, or at the end of the bytes. Beyond their end it is `from`.
 pub fn line_end(bytes: &[u8], from: usize) -> usize
     ensures { λ r. ⌜ r ≡ from + lineLength (drop from (now (bytes .entry))) ⌝ }
 {

@@ -1,4 +1,4 @@
--- Where the rows of a size stand: behind all rows of smaller sizes.
+-- Where the rows of a size stand: after all rows of smaller sizes.
 -- Assumes nothing.
 use mathlib.Core.List.{List}
 use Prim.Native.Nat.{ℕ, _+_, _-_, _*_}

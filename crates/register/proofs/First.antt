@@ -1,4 +1,4 @@
--- The first bad line, by its place: a build gives its number and its place, and all lines are good exactly if each is, judged behind those before it.
+-- The first bad line, by its place: a build gives its number and its place, and all lines are good exactly if each is, judged after those before it.
 -- Assumes nothing.
 use mathlib.Core.Path.{_≡_, refl, sym, ap, ap₂, _∙_}
 use mathlib.Core.Logic.{_⊎_, ⊎-elim}
@@ -13,9 +13,9 @@ use Rattle.lines.specs.Lines.{linesOf}
 use Rattle.register.specs.Build.{nextId, judgeLine, judgeNth, entryOf, Taken, takeLines, takenOf, entriesOf, builtOf}
 use Rattle.register.proofs.Taking.{take-none, take-bad, take-good}
 
--- ---- the lines behind given names
+-- ---- the lines after given names
 
--- the number of line k of these, judged behind the names es and those of the lines before it
+-- the number of line k of these, judged after the names es and those of the lines before it
 judgeFrom : List Entry → List (List ℕ) → ℕ → ℕ
 judgeFrom es ls k = judgeLine (length es + k) (nextId (es ++ map entryOf (take k ls))) (getD ls k [])
 

@@ -24,7 +24,7 @@ use Rattle.register.specs.Steps.{Heard}
 
 -- ---- the number of a line
 
--- the cases of a line behind those of its name
+-- the cases of a line after those of its name
 behind : ℕ → ℕ → List ℕ → List Case
 behind count next line = case 9 (ltb (idIn line) next) ∷ case 10 (leb mostNames count) ∷ []
 
@@ -33,7 +33,7 @@ unfolding judgeLine
 judged-malformed count next line e = first-here 11 (not (isFrame nameFrame line)) _ (ap not e)
 
 module _ (count next : ℕ) (line : List ℕ) (frame : isFrame nameFrame line ≡ true) where
-  -- the name decides, and the cases behind it
+  -- the name decides, and the cases after it
   framed : judgeLine count next line ≡ firstCase (nameCases (nameOf line) ++ behind count next line)
   unfolding judgeLine behind
   framed = first-next 11 (not (isFrame nameFrame line)) (nameCases (nameOf line) ++ behind count next line) (ap not frame)

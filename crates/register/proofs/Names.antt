@@ -42,7 +42,7 @@ module _ (register words : List ℕ) (accepted : builtOf register (length words)
   rest : List ℕ
   rest = replicate (length words - length (wordsOf (map entryOf (linesOf register)))) blank
 
-  -- the words are the index of the lines' names, and blanks behind it
+  -- the words are the index of the lines' names, and blanks after it
   pub accepted-index : wordsAfter register words ≡ wordsOf (map entryOf (linesOf register)) ++ replicate (length words - length (wordsOf (map entryOf (linesOf register)))) blank
   accepted-index = accepted-words register words accepted ∙ ap (λ (l : List Entry). padTo (length words) (wordsOf l)) accepted-entries
 

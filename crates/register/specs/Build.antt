@@ -36,7 +36,7 @@ nextFrom n (e ∷ es) = nextFrom (e .id + 1) es
 abbrev pub nextId : List Entry → ℕ
 nextId es = nextFrom 0 es
 
--- the refusals of a line behind `count` names, whose id has to be at least `next`, in the order in which they are judged: no 4E frame, the name's, an id
+-- the refusals of a line after `count` names, whose id has to be at least `next`, in the order in which they are judged: no 4E frame, the name's, an id
 -- that is not above the one before, one name too many
 abbrev pub lineCases : ℕ → ℕ → List ℕ → List Case
 lineCases count next line =
@@ -58,7 +58,7 @@ pub record Taken : Type 0 where
   pub line : ℕ
   pub entries : List Entry
 
--- the lines behind those that gave the names es, a name a line
+-- the lines after those that gave the names es, a name a line
 unfoldable pub takeLines : List Entry → List (List ℕ) → Taken
 takeLines es [] = record { number = 0; line = 0; entries = es }
 takeLines es (l ∷ ls) =
@@ -69,7 +69,7 @@ takeLines es (l ∷ ls) =
 unfoldable pub takenOf : List ℕ → Taken
 takenOf register = takeLines [] (linesOf register)
 
--- the number of line i, from 0, judged behind the names of the lines before it
+-- the number of line i, from 0, judged after the names of the lines before it
 abbrev pub judgeNth : List ℕ → ℕ → ℕ
 judgeNth register i = judgeLine i (nextId (map entryOf (take i (linesOf register)))) (nthLine register i)
 

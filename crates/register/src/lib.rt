@@ -28,7 +28,7 @@ struct Judged {
     len: usize,
 }
 
-// Judges a line behind `count` names, whose id has to be at least `next`, and puts its name at the start of the buffer.
+// Judges a line after `count` names, whose id has to be at least `next`, and puts its name at the start of the buffer.
 fn judge_line(line: &[u8], name: &mut [u8], count: usize, next: u32) -> Judged
     requires { ⌜ length (now name) ≡ longestName ⌝ }
     ensures { λ r. ⌜ Heard count next (now (line .entry)) (now (name .exit)) (r .number) (r .id) (r .len) ⌝ }
@@ -74,7 +74,7 @@ fn put_keys(items: &[u64], size: usize, place: u64, keys: &mut [u64], at: usize)
     }
 }
 
-// Puts the word of a good name behind n others, and its keys behind p others. Answers how many keys there are then.
+// Puts the word of a good name after n others, and its keys after p others. Answers how many keys there are then.
 fn add_name(name: &[u8], id: u32, names: &mut [u32], n: usize, keys: &mut [u64], p: usize) -> usize
     requires { ⌜ (judgeOf (now name) ≡ 0) × (id ≤ largestId) × (n < mostNames) × (n < length (now names)) × (p + length (featuresOf (now name)) ≤ length (now keys)) ⌝ }
     ensures { λ r. ⌜ (r ≡ p + length (featuresOf (now (name .entry)))) × (now (names .exit) ≡ set (now (names .entry)) n (id * sizeRoom + length (featuresOf (now (name .entry))))) × (now (keys .exit) ≡ paste (now (keys .entry)) p (map (λ (f : ℕ). f * placeSpan + n) (featuresOf (now (name .entry)))) (length (featuresOf (now (name .entry))))) ⌝ }

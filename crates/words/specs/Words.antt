@@ -95,7 +95,7 @@ rowLength w r = getD w (rowStart w r + lengthColumn) 0
 abbrev pub rowsCut : List ℕ → ℕ → ℕ → List ℕ
 rowsCut w a m = take (rowWidth * m) (drop (rowStart w a) w)
 
--- how many rows such a part has; words behind the last whole row are no row
+-- how many rows such a part has; words after the last whole row are no row
 unfoldable pub partRows : List ℕ → ℕ
 partRows rows = length rows / rowWidth
 

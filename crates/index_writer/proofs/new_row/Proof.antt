@@ -1,4 +1,4 @@
--- `new_row` meets its contract: four stores one behind the other, where there is room for them.
+-- `new_row` meets its contract: four stores one after the other, where there is room for them.
 use mathlib.Core.Path.{_≡_, refl, sym, ap, ap₂, _∙_}
 use mathlib.Core.List.{List, [], _∷_, _++_, map}
 use Prim.Native.Nat.{ℕ, _+_, _*_, _-_, _/_, _%_, _≤_, _<_}

@@ -1,4 +1,4 @@
--- `put_head` meets its contract: the names go behind three words, and these are set.
+-- `put_head` meets its contract: the names go after three words, and these are set.
 use mathlib.Core.Path.{_≡_, ap, _∙_}
 use mathlib.Core.List.{List}
 use Prim.Native.Nat.{ℕ, _+_, _-_, _<_}

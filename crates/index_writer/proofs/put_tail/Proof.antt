@@ -1,4 +1,4 @@
--- `put_tail` meets its contract: the rows stand at the front, the lists behind them, and blanks behind those.
+-- `put_tail` meets its contract: the rows stand at the front, the lists after them, and blanks after those.
 use mathlib.Core.Path.{_≡_, refl, sym, ap, ap₂, _∙_}
 use mathlib.Core.List.{List, [], _∷_, _++_, map}
 use Prim.Native.Nat.{ℕ, suc, _+_, _*_, _-_, _/_, _%_, _≤_, _<_}

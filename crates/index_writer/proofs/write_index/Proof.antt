@@ -1,4 +1,4 @@
--- `write_index` meets its contract: rows, lists and blanks behind the names, where all fits, and the head before these.
+-- `write_index` meets its contract: rows, lists and blanks after the names, where all fits, and the head before these.
 use mathlib.Core.Path.{_≡_, refl, sym, ap, ap₂, _∙_}
 use mathlib.Core.List.{List, _++_}
 use Prim.Native.Nat.{ℕ, _+_, _*_, _-_, _≤_}
