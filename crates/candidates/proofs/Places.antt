@@ -1,6 +1,6 @@
--- Laws of the answers by place: what is kept of those met. Cited by the proof of `keep`.
+-- Laws of the answers by place: what is kept of those met, and that the counts are 0 again. Cited by the proof of `keep`.
 -- Assumes nothing.
-use mathlib.Core.Path.{_≡_, refl, sym, ap, _∙_}
+use mathlib.Core.Path.{_≡_, refl, sym, ap, ap₂, _∙_}
 use mathlib.Core.Logic.{⊎-elim}
 use mathlib.Core.Bool.{Bool, true, false, cond, _||_}
 use mathlib.Core.List.{List, [], _∷_, _++_}
@@ -8,16 +8,17 @@ use Prim.Native.Nat.{ℕ, _+_, _≤_, _<_}
 use native.Mathlib.Numerals.{add-one}
 use native.Mathlib.Omega.{arith}
 use lib.ListN.{length, getD, take, set, List·getD-eq-default}
-use lib.Seq.{take-suc, length-take-le, getD-take, getD-set-same, getD-set-other}
+use lib.Seq.{take-suc, take-take, length-take-le, getD-take, getD-set-same, getD-set-other}
 use lib.Dec.{leb}
-use borrow.Author.Tests.{eq-eqb, ne-eqb, leb-true}
+use borrow.Author.Tests.{eq-eqb, ne-eqb, leb-true, leb-false}
 use Rattle.laws.specs.Lists.{member}
 use Rattle.laws.proofs.Lists.{member-append}
 use Rattle.laws.proofs.Members.{member-at}
 use Rattle.laws.proofs.Order.{eq-or-ne, le-or-lt}
 use Rattle.laws.proofs.Tables.{table-of}
 use Rattle.index.specs.Good.{mostNames}
-use Rattle.candidates.specs.Tables.{MetBy, kept}
+use Rattle.candidates.specs.Tables.{MetBy, noCounts, kept}
+use Rattle.candidates.proofs.Testing.{distinct-fresh}
 
 -- ---- the answers after the first k of those met
 
@@ -71,3 +72,27 @@ met-within counts met m k b n h =
           (λ (q : getD met k 0 < mostNames). q)
           (le-or-lt mostNames (getD met k 0)),
     )
+
+-- ---- the counts after the first k of those met: 0 at each, as from a table without any
+
+abbrev pub Clears : List ℕ → List ℕ → ℕ → List ℕ → Type 0
+Clears counts₀ met k counts = Keeps [] met counts₀ k counts
+
+-- the next of those met has the count that it came with
+pub count-next : (counts₀ met counts : List ℕ) (m k : ℕ) → MetBy counts₀ met m → k < m → Clears counts₀ met k counts
+    → getD counts (getD met k 0) 0 ≡ getD counts₀ (getD met k 0) 0
+count-next counts₀ met counts m k b h e =
+    let g : getD (take m met) k 0 ≡ getD met k 0 = getD-take m met k 0 h in
+    let n : length (take m met) ≡ m = length-take-le m met (b .within) in
+    let s : take k (take m met) ≡ take k met = take-take k m met (omega arith) in
+    let fresh : member (getD met k 0) (take k met) ≡ false = ap₂ (λ (x : ℕ) (r : List ℕ). member x r) (sym g) (sym s) ∙ distinct-fresh (take m met) k (b .distinct) (rw n h) in
+    e (getD met k 0) ∙ rw fresh
+
+-- after all of them no count is left
+pub clears-ends : (counts₀ met counts : List ℕ) (m : ℕ) → MetBy counts₀ met m → length counts ≡ mostNames → Clears counts₀ met m counts → counts ≡ noCounts
+clears-ends counts₀ met counts m b n e =
+    table-of counts mostNames (λ (i : ℕ). 0) n (λ i l. e i ∙ by-test i (member i (take m met)) (sym (b .those i)))
+  where
+    by-test : (i : ℕ) (t : Bool) → leb 1 (getD counts₀ i 0) ≡ t → _≡_ {A = ℕ} (cond t (getD [] i 0) (getD counts₀ i 0)) 0
+    by-test i true q = refl
+    by-test i false q = let z = leb-false 1 (getD counts₀ i 0) q in omega arith

@@ -32,6 +32,10 @@ pub record MetBy (counts met : List ℕ) (m : ℕ) : Type 0 where
 
 -- ---- the counts
 
+-- before a size: 0 at every place
+abbrev pub noCounts : List ℕ
+noCounts = tabulate (λ (i : ℕ). 0) mostNames
+
 -- one more at each name that the list holds
 unfoldable pub tallied : List ℕ → List ℕ → List ℕ → List ℕ
 tallied ids l counts = tabulate (λ (i : ℕ). getD counts i 0 + cond (holdsAt ids l i) 1 0) mostNames
@@ -104,8 +108,10 @@ pub record Narrowed (ids : List ℕ) (ls : List (List ℕ)) (t budget : ℕ) (co
   pub table : past ≡ false → counts ≡ remainTable ids ls t (laterCount ls t)
   pub candidates : past ≡ false → MetBy counts met m
 
--- after both: the answers hold the counts of those left at their places; past the budget no touch is reported and no answer is changed
-pub record Walked (ids : List ℕ) (ls : List (List ℕ)) (t budget : ℕ) (before after : List ℕ) (past : Bool) (touches : ℕ) : Type 0 where
+-- after both: the answers hold the counts of those left at their places, and the counts are 0 again; past the budget no touch is reported
+-- and no answer is changed
+pub record Walked (ids : List ℕ) (ls : List (List ℕ)) (t budget : ℕ) (before after counts : List ℕ) (past : Bool) (touches : ℕ) : Type 0 where
   pub spent : Spending (postingsOf ls (signatures (length ls) t) + laterTouches ids ls t (laterCount ls t)) budget past touches
   pub answers : past ≡ false → after ≡ kept (remainTable ids ls t (laterCount ls t)) before
+  pub cleared : past ≡ false → counts ≡ noCounts
   pub none : past ≡ true → (touches ≡ 0) × (after ≡ before)

@@ -4,10 +4,10 @@ ghost use mathlib.Core.Path.{_≡_};
 ghost use mathlib.Core.Bool.{cond};
 ghost use Prim.Native.Nat.{ℕ, _+_, _*_, _/_, _%_, _≤_, _<_};
 ghost use lib.ListN.{length, getD};
-ghost use Rattle.laws.specs.Lists.{Ascending, member, tabulate};
+ghost use Rattle.laws.specs.Lists.{Ascending, member};
 ghost use Rattle.names.specs.Features.{mostFeatures};
 ghost use Rattle.index.specs.Good.{mostNames};
-ghost use Rattle.candidates.specs.Tables.{Known, MetBy, tallied, tested, kept, cutAt, cutLists, Readable, remainTable, Gathered, Narrowed, Walked};
+ghost use Rattle.candidates.specs.Tables.{Known, MetBy, noCounts, tallied, tested, kept, cutAt, cutLists, Readable, remainTable, Gathered, Narrowed, Walked};
 
 // ---- one list against the tables by a name's place
 
@@ -124,7 +124,7 @@ fn gather(
     met: &mut [usize],
 ) -> Walk
     requires { ⌜ (length (now ids) ≤ mostNames) × Ascending (now ids) × Readable (now words) (now ids) (now keys) (now starts) × (signatures ≤ length (now keys)) × (length (now keys) ≤ mostFeatures) ⌝ }
-    requires { ⌜ (now counts ≡ tabulate (λ (i : ℕ). 0) mostNames) × (length (now met) ≡ mostNames) ⌝ }
+    requires { ⌜ (now counts ≡ noCounts) × (length (now met) ≡ mostNames) ⌝ }
     ensures { λ r. ⌜ Gathered (now (ids .entry)) (cutLists (now (words .entry)) (now (keys .entry)) (now (starts .entry))) signatures budget (now (counts .exit)) (now (met .exit)) (r .past) (r .touches) (r .met) ⌝ }
 {
     let mut m = 0;
@@ -192,15 +192,16 @@ fn narrow(
 
 // ---- both phases
 
-// The counts of those met, put into the answers by place.
-fn keep(counts: &[u32], met: &[usize], m: usize, answers: &mut [u32])
+// The counts of those met, moved into the answers by place: the counts are 0 again.
+fn keep(counts: &mut [u32], met: &[usize], m: usize, answers: &mut [u32])
     requires { ⌜ (length (now counts) ≡ mostNames) × MetBy (now counts) (now met) m × (length (now answers) ≡ mostNames) ⌝ }
-    ensures { λ r. ⌜ now (answers .exit) ≡ kept (now (counts .entry)) (now (answers .entry)) ⌝ }
+    ensures { λ r. ⌜ (now (answers .exit) ≡ kept (now (counts .entry)) (now (answers .entry))) × (now (counts .exit) ≡ noCounts) ⌝ }
 {
     let mut k = 0;
     while k < m {
         let i = met[k];
         answers[i] = counts[i];
+        counts[i] = 0;
         k += 1;
     }
 }
@@ -211,7 +212,8 @@ pub struct Spent {
     pub touches: usize,
 }
 
-// The two phases over lists in order, and what is left kept among the answers.
+// The two phases over lists in order, and what is left kept among the answers. The counts and the places met are tables that the caller has
+// made once: the counts come and go as 0.
 pub fn walk_lists(
     words: &[u32],
     ids: &[u32],
@@ -219,13 +221,14 @@ pub fn walk_lists(
     starts: &[usize],
     least: usize,
     budget: usize,
+    counts: &mut [u32],
+    met: &mut [usize],
     answers: &mut [u32],
 ) -> Spent
     requires { ⌜ (length (now ids) ≤ mostNames) × Ascending (now ids) × Readable (now words) (now ids) (now keys) (now starts) × (length (now keys) ≤ mostFeatures) × (1 ≤ least) × (least ≤ length (now keys)) × (length (now answers) ≡ mostNames) ⌝ }
-    ensures { λ r. ⌜ Walked (now (ids .entry)) (cutLists (now (words .entry)) (now (keys .entry)) (now (starts .entry))) least budget (now (answers .entry)) (now (answers .exit)) (r .past) (r .touches) ⌝ }
+    requires { ⌜ (now counts ≡ noCounts) × (length (now met) ≡ mostNames) ⌝ }
+    ensures { λ r. ⌜ Walked (now (ids .entry)) (cutLists (now (words .entry)) (now (keys .entry)) (now (starts .entry))) least budget (now (answers .entry)) (now (answers .exit)) (now (counts .exit)) (r .past) (r .touches) ⌝ }
 {
-    let mut counts = [0u32; index::MOST_NAMES];
-    let mut met = [0usize; index::MOST_NAMES];
     let first = gather(
         words,
         ids,
@@ -233,8 +236,8 @@ pub fn walk_lists(
         starts,
         keys.len() - least + 1,
         budget,
-        &mut counts,
-        &mut met,
+        counts,
+        met,
     );
     if first.past {
         return Spent {
@@ -251,8 +254,8 @@ pub fn walk_lists(
         starts,
         least,
         budget - touches,
-        &mut counts,
-        &mut met,
+        counts,
+        met,
         already,
     );
     if then.past {
@@ -262,7 +265,7 @@ pub fn walk_lists(
         };
     }
     let m = then.met;
-    keep(&counts, &met, m, answers);
+    keep(counts, met, m, answers);
     Spent {
         past: false,
         touches: touches + then.touches,

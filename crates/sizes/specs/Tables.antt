@@ -16,7 +16,7 @@ use Rattle.index.specs.Good.{mostNames}
 use Rattle.lists.specs.Lists.{spanIn, listIn}
 use Rattle.candidates.specs.Method.{laterCount}
 use Rattle.candidates.specs.Spending.{Spending}
-use Rattle.candidates.specs.Tables.{kept, remainTable}
+use Rattle.candidates.specs.Tables.{noCounts, kept, remainTable}
 use Rattle.sizes.specs.Method.{namesOf, listsFor, touchesAt, sharedWith, sizesEnd, touchesOfSize, touchesOf, listed}
 
 -- ---- the names
@@ -45,11 +45,20 @@ filledOf w y features n = countBelow n (λ (j : ℕ). ltb 255 (smallKey w y feat
 
 -- ---- one size
 
+-- the tables that are made once and lent to each size: where lists start, their keys and a spare as long, counts, all 0, and the places met
+pub record Lent (features starts keys spare counts met : List ℕ) : Type 0 where
+  pub starting : length starts ≡ mostFeatures
+  pub keyed : length keys ≡ length features
+  pub spared : length spare ≡ length features
+  pub cleared : counts ≡ noCounts
+  pub meeting : length met ≡ mostNames
+
 -- what one size comes to: the answers hold the counts of those left at their places; past the budget no touch is reported and no answer is
--- changed
-pub record Sized (w : List ℕ) (y : ℕ) (features : List ℕ) (t budget : ℕ) (before after : List ℕ) (past : Bool) (touches : ℕ) : Type 0 where
+-- changed; otherwise the counts are 0 again
+pub record Sized (w : List ℕ) (y : ℕ) (features : List ℕ) (t budget : ℕ) (before after counts : List ℕ) (past : Bool) (touches : ℕ) : Type 0 where
   pub spent : Spending (touchesAt w y (listsFor w y features) t) budget past touches
   pub answers : past ≡ false → after ≡ kept (remainTable (idsOf w) (listsFor w y features) t (laterCount (listsFor w y features) t)) before
+  pub cleared : past ≡ false → counts ≡ noCounts
   pub none : past ≡ true → (touches ≡ 0) × (after ≡ before)
 
 -- the features as the code has them: ascending, some and not too many, each below the span
@@ -70,9 +79,10 @@ unfoldable pub answersTable : List ℕ → ℕ → ℕ → ℕ → List ℕ → 
 answersTable w m p q features y = tabulate (λ (i : ℕ). cond (answeredAt w m p q features y i) (sharedWith w features i) 0) mostNames
 
 -- after size y: the answers are those of the sizes up to y, or past the budget those of the sizes below it
-pub record Stepped (w : List ℕ) (m p q : ℕ) (features : List ℕ) (y budget : ℕ) (after : List ℕ) (past : Bool) (touches : ℕ) : Type 0 where
+pub record Stepped (w : List ℕ) (m p q : ℕ) (features : List ℕ) (y budget : ℕ) (after counts : List ℕ) (past : Bool) (touches : ℕ) : Type 0 where
   pub spent : Spending (touchesOfSize w m p q features y) budget past touches
   pub answers : past ≡ false → after ≡ answersTable w m p q features (y + 1)
+  pub cleared : past ≡ false → counts ≡ noCounts
   pub none : past ≡ true → (touches ≡ 0) × (after ≡ answersTable w m p q features y)
 
 -- after all sizes: their answers, or past the budget those of the sizes below the one that no longer fits, and no touch is reported

@@ -12,7 +12,7 @@ ghost use Rattle.laws.specs.Sort.{sortOf};
 ghost use Rattle.names.specs.Features.{mostFeatures};
 ghost use Rattle.index.specs.Good.{Good, mostNames};
 ghost use Rattle.sizes.specs.Method.{sizesEnd};
-ghost use Rattle.sizes.specs.Tables.{presentAt, startOf, smallKey, filledOf, idsOf, Asked, Sized, answersTable, Stepped, Covered};
+ghost use Rattle.sizes.specs.Tables.{presentAt, startOf, smallKey, filledOf, idsOf, Asked, Lent, Sized, answersTable, Stepped, Covered};
 use candidates::Spent;
 use names::FeatureSet;
 
@@ -76,18 +76,17 @@ fn order_lists(
     least: usize,
     starts: &mut [usize],
     keys: &mut [u64],
+    spare: &mut [u64],
 ) -> bool
-    requires { ⌜ Good (now words) × (length (now features) ≤ mostFeatures) × (length (now starts) ≡ mostFeatures) × (length (now keys) ≡ length (now features)) ⌝ }
+    requires { ⌜ Good (now words) × (length (now features) ≤ mostFeatures) × (length (now starts) ≡ mostFeatures) × (length (now keys) ≡ length (now features)) × (length (now spare) ≡ length (now features)) ⌝ }
     ensures { λ r. ⌜ r ≡ leb least (filledOf (now (words .entry)) size (now (features .entry)) (length (now (features .entry)))) ⌝ }
     ensures { λ r. ⌜ (r ≡ true → (now (keys .exit) ≡ sortOf (tabulate (smallKey (now (words .entry)) size (now (features .entry))) (length (now (features .entry))))) × ((j : ℕ) → j < length (now (features .entry)) → getD (now (starts .exit)) j 0 ≡ startOf (now (words .entry)) size (now (features .entry)) j)) ⌝ }
 {
-    let x = features.len();
     let filled = find_lists(words, features, size, starts, keys);
     if filled < least {
         return false;
     }
-    let mut spare = [0u64; FeatureSet::CAPACITY];
-    sorting::sort(keys, &mut spare[..x]);
+    sorting::sort(keys, spare);
     true
 }
 
@@ -99,21 +98,34 @@ fn one_size(
     size: u32,
     least: usize,
     budget: usize,
+    starts: &mut [usize],
+    keys: &mut [u64],
+    spare: &mut [u64],
+    counts: &mut [u32],
+    met: &mut [usize],
     answers: &mut [u32],
 ) -> Spent
     requires { ⌜ Good (now words) × (now ids ≡ idsOf (now words)) × Asked (now features) × (1 ≤ least) × (least ≤ length (now features)) × (length (now answers) ≡ mostNames) ⌝ }
-    ensures { λ r. ⌜ Sized (now (words .entry)) size (now (features .entry)) least budget (now (answers .entry)) (now (answers .exit)) (r .past) (r .touches) ⌝ }
+    requires { ⌜ Lent (now features) (now starts) (now keys) (now spare) (now counts) (now met) ⌝ }
+    ensures { λ r. ⌜ Sized (now (words .entry)) size (now (features .entry)) least budget (now (answers .entry)) (now (answers .exit)) (now (counts .exit)) (r .past) (r .touches) ⌝ }
 {
-    let x = features.len();
-    let mut starts = [0usize; FeatureSet::CAPACITY];
-    let mut keys = [0u64; FeatureSet::CAPACITY];
-    if !order_lists(words, features, size, least, &mut starts, &mut keys[..x]) {
+    if !order_lists(words, features, size, least, starts, keys, spare) {
         return Spent {
             past: false,
             touches: 0,
         };
     }
-    candidates::walk_lists(words, ids, &keys[..x], &starts, least, budget, answers)
+    candidates::walk_lists(
+        words,
+        ids,
+        keys,
+        starts,
+        least,
+        budget,
+        counts,
+        met,
+        answers,
+    )
 }
 
 // ---- all sizes
@@ -129,10 +141,16 @@ fn size_step(
     present: u32,
     y: usize,
     budget: usize,
+    starts: &mut [usize],
+    keys: &mut [u64],
+    spare: &mut [u64],
+    counts: &mut [u32],
+    met: &mut [usize],
     answers: &mut [u32],
 ) -> Spent
     requires { ⌜ Good (now words) × (now ids ≡ idsOf (now words)) × Asked (now features) × (goodMeasure measure ≡ true) × (y < sizesEnd) × (present ≡ presentAt (now words) y) × (now answers ≡ answersTable (now words) measure p q (now features) y) ⌝ }
-    ensures { λ r. ⌜ Stepped (now (words .entry)) measure p q (now (features .entry)) y budget (now (answers .exit)) (r .past) (r .touches) ⌝ }
+    requires { ⌜ Lent (now features) (now starts) (now keys) (now spare) (now counts) (now met) ⌝ }
+    ensures { λ r. ⌜ Stepped (now (words .entry)) measure p q (now (features .entry)) y budget (now (answers .exit)) (now (counts .exit)) (r .past) (r .touches) ⌝ }
 {
     if present == 0 {
         return Spent {
@@ -149,11 +167,24 @@ fn size_step(
         };
     }
     let least = likeness::least_count(measure, p, q, x, size) as usize;
-    one_size(words, ids, features, y as u32, least, budget, answers)
+    one_size(
+        words,
+        ids,
+        features,
+        y as u32,
+        least,
+        budget,
+        starts,
+        keys,
+        spare,
+        counts,
+        met,
+        answers,
+    )
 }
 
-// All sizes upward, as long as their touches are within the allowance.
-pub fn all_sizes(
+// All sizes upward, as long as their touches are within the allowance, over tables that are lent.
+fn each_size(
     words: &[u32],
     ids: &[u32],
     features: &[u64],
@@ -161,9 +192,15 @@ pub fn all_sizes(
     p: u16,
     q: u16,
     allowance: usize,
+    starts: &mut [usize],
+    keys: &mut [u64],
+    spare: &mut [u64],
+    counts: &mut [u32],
+    met: &mut [usize],
     answers: &mut [u32],
 ) -> Spent
     requires { ⌜ Good (now words) × (now ids ≡ idsOf (now words)) × Asked (now features) × (goodMeasure measure ≡ true) × (now answers ≡ answersTable (now words) measure p q (now features) 0) ⌝ }
+    requires { ⌜ Lent (now features) (now starts) (now keys) (now spare) (now counts) (now met) ⌝ }
     ensures { λ r. ⌜ Covered (now (words .entry)) measure p q (now (features .entry)) allowance (now (answers .exit)) (r .past) (r .touches) ⌝ }
 {
     let present = sizes_present(words);
@@ -180,6 +217,11 @@ pub fn all_sizes(
             present[y],
             y,
             allowance - touches,
+            starts,
+            keys,
+            spare,
+            counts,
+            met,
             answers,
         );
         if spent.past {
@@ -195,4 +237,41 @@ pub fn all_sizes(
         past: false,
         touches,
     }
+}
+
+// All sizes, over tables that are set to 0 once for all of them.
+pub fn all_sizes(
+    words: &[u32],
+    ids: &[u32],
+    features: &[u64],
+    measure: u8,
+    p: u16,
+    q: u16,
+    allowance: usize,
+    answers: &mut [u32],
+) -> Spent
+    requires { ⌜ Good (now words) × (now ids ≡ idsOf (now words)) × Asked (now features) × (goodMeasure measure ≡ true) × (now answers ≡ answersTable (now words) measure p q (now features) 0) ⌝ }
+    ensures { λ r. ⌜ Covered (now (words .entry)) measure p q (now (features .entry)) allowance (now (answers .exit)) (r .past) (r .touches) ⌝ }
+{
+    let x = features.len();
+    let mut starts = [0usize; FeatureSet::CAPACITY];
+    let mut keys = [0u64; FeatureSet::CAPACITY];
+    let mut spare = [0u64; FeatureSet::CAPACITY];
+    let mut counts = [0u32; index::MOST_NAMES];
+    let mut met = [0usize; index::MOST_NAMES];
+    each_size(
+        words,
+        ids,
+        features,
+        measure,
+        p,
+        q,
+        allowance,
+        &mut starts,
+        &mut keys[..x],
+        &mut spare[..x],
+        &mut counts,
+        &mut met,
+        answers,
+    )
 }

@@ -1,160 +1,62 @@
--- `all_sizes` meets its contract: after the sizes below y, their touches, and their answers.
-use mathlib.Core.Path.{_≡_, refl, sym, ap, subst, _∙_}
-use mathlib.Core.Bool.{true, false, true≢false}
+-- `all_sizes` meets its contract: the tables that it lends are as long as they should be, and 0.
+use mathlib.Core.Path.{_≡_, refl, sym}
 use mathlib.Core.List.{List}
-use Prim.Native.Nat.{ℕ, _+_, _≤_, _<_, _-_}
-use native.Mathlib.Omega.{arith}
-use lib.ListN.{length, getD}
-use borrow.Author.Tests.{ltb-true}
-use Rattle.laws.specs.Below.{sumBelow}
-use Rattle.laws.specs.Lists.{tabulate}
-use Rattle.laws.proofs.Lists.{getD-tabulate}
-use Rattle.laws.proofs.Below.{sum-below-step, sum-below-up}
-use Rattle.candidates.specs.Spending.{Spending}
-use Rattle.candidates.proofs.Spending.{spend-within, spent-most, spend-more, spend-both}
-use Rattle.sizes.specs.Method.{sizesEnd, touchesOfSize, touchesOf}
-use Rattle.sizes.specs.Tables.{presentAt, answersTable}
-use Rattle.sizes.proofs.Answering.{length-answers}
+use Prim.Native.Nat.{ℕ, _≤_}
+use borrow.Author.Needs.{needs}
+use lib.ListN.{length, take, replicate, length-replicate}
+use lib.Seq.{length-take-le}
+use Rattle.index.specs.Good.{mostNames}
+use Rattle.candidates.proofs.Counts.{zeros}
+use Rattle.sizes.specs.Tables.{Lent}
 use Rattle.sizes.proofs.all_sizes.Statement.{statement}
 use Rattle.sizes.proofs.all_sizes.Tie as tie
 
-abbrev Inv-loop : tie.InvT-loop
-Inv-loop words ids features measure p q allowance answers₀ present touches₀ y₀ answers touches y =
-    (y ≤ sizesEnd) × (present ≡ tabulate (presentAt words) sizesEnd) × Spending (sumBelow y (touchesOfSize words measure p q features)) allowance false touches
-    × (answers ≡ answersTable words measure p q features y)
+slice-aggregate-each-size : tie.Need-slice-aggregate-each-size
+slice-aggregate-each-size c = search needs
 
-abbrev μ-loop : tie.MeasureT-loop
-μ-loop words ids features measure p q allowance answers₀ present touches₀ y₀ answers touches y = sizesEnd - y
+array-borrow-prefix-keys : tie.Need-array-borrow-prefix-keys
+array-borrow-prefix-keys c = search needs
 
-sizes-present-requires : tie.Need-sizes-present-requires Inv-loop μ-loop
-sizes-present-requires c κs = c .before .before .before .before .pre .0
+slice-aggregate-each-size-2 : tie.Need-slice-aggregate-each-size-2
+slice-aggregate-each-size-2 c = sym (length-take-le {A = ℕ} (length (c .before .before .before .before .before .before .args .features .now)) (replicate 66 0) (c .before .before .before .before .before .before .pre .2 .few))
 
-loop-holds : tie.Need-loop-holds Inv-loop μ-loop
-loop-holds c =
-    let b = c .before .before .before .before .before in
-    (omega arith, c .sizes-present .ensures, spend-within (sumBelow 0 (touchesOfSize (b .args .words .now) (b .args .measure) (b .args .p) (b .args .q) (b .args .features .now))) (b .args .allowance) 0 (unfold sumBelow in refl) (unfold sumBelow in omega arith), b .pre .4)
+array-borrow-prefix-spare : tie.Need-array-borrow-prefix-spare
+array-borrow-prefix-spare c = search needs
 
-mul-size-step : tie.Need-mul-size-step Inv-loop μ-loop
-mul-size-step c = omega arith
+slice-aggregate-each-size-3 : tie.Need-slice-aggregate-each-size-3
+slice-aggregate-each-size-3 c = sym (length-take-le {A = ℕ} (length (c .before .before .before .before .before .before .before .args .features .now)) (replicate 66 0) (c .before .before .before .before .before .before .before .pre .2 .few))
 
-array-read-size-step : tie.Need-array-read-size-step Inv-loop μ-loop
-array-read-size-step c = omega arith
+slice-aggregate-each-size-4 : tie.Need-slice-aggregate-each-size-4
+slice-aggregate-each-size-4 c = search needs
 
-sub-size-step : tie.Need-sub-size-step Inv-loop μ-loop
-sub-size-step c =
-    let b = c .before .before .before .before .before .before .before in
-    let l = c .before .loop in
-    spent-most (sumBelow (l .y) (touchesOfSize (b .args .words .now) (b .args .measure) (b .args .p) (b .args .q) (b .args .features .now))) (b .args .allowance) false (l .touches) (l .inv .2) refl .1
+slice-aggregate-each-size-5 : tie.Need-slice-aggregate-each-size-5
+slice-aggregate-each-size-5 c = search needs
 
-size-step-requires : tie.Need-size-step-requires Inv-loop μ-loop
-size-step-requires c κs =
-    let b = c .before .before .before .before .before .before .before .before in
-    let l = c .before .before .loop in
-    let t = c .before .loop-test .taken in
-    (b .pre .0, b .pre .1, b .pre .2, b .pre .3, t, ap (λ (r : List ℕ). getD r (l .y) 0) (l .inv .1) ∙ getD-tabulate (presentAt (b .args .words .now)) sizesEnd (l .y) 0 t, l .inv .3)
+each-size-requires : tie.Need-each-size-requires
+each-size-requires c κs =
+    let b = c .before .before .before .before .before .before .before .before .before .before in
+    let cut : length (take (length (b .args .features .now)) (replicate {A = ℕ} 66 0)) ≡ length (b .args .features .now) = length-take-le {A = ℕ} (length (b .args .features .now)) (replicate 66 0) (b .pre .2 .few) in (
+      (b .pre .0, b .pre .1, b .pre .2, b .pre .3, b .pre .4),
+      (record { starting = refl; keyed = cut; spared = cut; cleared = zeros; meeting = length-replicate {A = ℕ} mostNames 0 }),
+    )
 
-same-length : tie.Need-same-length Inv-loop μ-loop
-same-length c =
-    let b = c .before .before .before .before .before .before .before .before .before .before .before .before in
-    c .before .before .before .size-step .kept .1 .1 .1 .1 .1 .1 .1 .1 .1 .0 ∙ ap length (c .before .before .before .before .before .before .loop .inv .3) ∙ length-answers (b .args .words .now) (b .pre .0) (b .args .measure) (b .args .p) (b .args .q) (b .args .features .now) (b .pre .2) (c .before .before .before .before .before .before .loop .y) ∙ sym (ap length (b .pre .4) ∙ length-answers (b .args .words .now) (b .pre .0) (b .args .measure) (b .args .p) (b .args .q) (b .args .features .now) (b .pre .2) 0)
+same-length : tie.Need-same-length
+same-length c = search needs
 
--- what the sizes up to y came to, with u touches
-upto : (c : tie.After-size-step Inv-loop μ-loop) → (u : ℕ) → (c .size-step .result .past ≡ false → u ≡ c .before .before .before .loop .touches + c .size-step .result .touches)
-    → let a = c .before .before .before .before .before .before .before .before .before .args in
-    Spending (sumBelow (c .before .before .before .loop .y + 1) (touchesOfSize (a .words .now) (a .measure) (a .p) (a .q) (a .features .now))) (a .allowance) (c .size-step .result .past) u
-upto c u e =
-    let b = c .before .before .before .before .before .before .before .before .before in
-    let l = c .before .before .before .loop in
-    let s = c .size-step in
-    subst (λ (n : ℕ). Spending n (b .args .allowance) (s .result .past) u) (sym (sum-below-step (touchesOfSize (b .args .words .now) (b .args .measure) (b .args .p) (b .args .q) (b .args .features .now)) (l .y)))
-    (spend-both (sumBelow (l .y) (touchesOfSize (b .args .words .now) (b .args .measure) (b .args .p) (b .args .q) (b .args .features .now))) (b .args .allowance) false (l .touches) (l .inv .2) refl ((touchesOfSize (b .args .words .now) (b .args .measure) (b .args .p) (b .args .q) (b .args .features .now)) (l .y)) (s .result .past) (s .result .touches) u (s .ensures .spent) e)
-
-returns : tie.Need-returns Inv-loop μ-loop
-unfolding touchesOf
-returns c =
-    let b = c .before .before .before .before .before .before .before .before .before .before .before .before in
-    let s = c .before .before .before in
-    let l = c .before .before .before .before .before .before .loop in
-    let t = c .before .before .before .before .before .loop-test .taken in
-    let e : l .y + 1 + (sizesEnd - (l .y + 1)) ≡ sizesEnd = omega arith in
-    let v = sum-below-up (l .y + 1) (sizesEnd - (l .y + 1)) (touchesOfSize (b .args .words .now) (b .args .measure) (b .args .p) (b .args .q) (b .args .features .now)) in
-    let w = ap (λ (k : ℕ). sumBelow k (touchesOfSize (b .args .words .now) (b .args .measure) (b .args .p) (b .args .q) (b .args .features .now))) e in
-    record {
-      spent =
-          spend-more (sumBelow (l .y + 1) (touchesOfSize (b .args .words .now) (b .args .measure) (b .args .p) (b .args .q) (b .args .features .now))) (sumBelow sizesEnd (touchesOfSize (b .args .words .now) (b .args .measure) (b .args .p) (b .args .q) (b .args .features .now))) (b .args .allowance) (s .size-step .result .past) 0 0
-          (upto s 0 (λ q. absurd (true≢false (sym (c .if1 .taken) ∙ q)))) (c .if1 .taken) (omega arith);
-      answers = λ z. absurd (true≢false z);
-      none = λ z. refl;
-      stopped = λ z. (
-        l .y,
-        (let k = spent-most (sumBelow (l .y) (touchesOfSize (b .args .words .now) (b .args .measure) (b .args .p) (b .args .q) (b .args .features .now))) (b .args .allowance) false (l .touches) (l .inv .2) refl in let e = k .0 in let h = k .1 in omega arith),
-        ltb-true _ _ (sym (upto s 0 (λ q. absurd (true≢false (sym (c .if1 .taken) ∙ q))) .over) ∙ c .if1 .taken),
-        s .size-step .ensures .none (c .if1 .taken) .1,
-      );
-    }
-
--- the touches so far
-so-far : (c : tie.After-size-step Inv-loop μ-loop) → c .size-step .result .past ≡ false
-    → let a = c .before .before .before .before .before .before .before .before .before .args in
-    Spending (sumBelow (c .before .before .before .loop .y + 1) (touchesOfSize (a .words .now) (a .measure) (a .p) (a .q) (a .features .now))) (a .allowance) false (c .before .before .before .loop .touches + c .size-step .result .touches)
-so-far c e = rw e at (upto c (c .before .before .before .loop .touches + c .size-step .result .touches) (λ q. refl))
-
-add-touches : tie.Need-add-touches Inv-loop μ-loop
-add-touches c =
-    let b = c .before .before .before .before .before .before .before .before .before .before .before .before .before in
-    let s = c .before .before .before .before in
-    let l = c .before .before .before .before .before .before .before .loop in
-    let m = spent-most (sumBelow (l .y + 1) (touchesOfSize (b .args .words .now) (b .args .measure) (b .args .p) (b .args .q) (b .args .features .now))) (b .args .allowance) false (l .touches + s .size-step .result .touches) (so-far s (c .before .if1 .left)) refl .1 in
-    let z = b .fits .allowance in
-    omega arith
-
-add-y : tie.Need-add-y Inv-loop μ-loop
-add-y c = omega arith
-
-loop-less : tie.Need-loop-less Inv-loop μ-loop
-loop-less c = omega arith
-
-loop-again : tie.Need-loop-again Inv-loop μ-loop
-loop-again c =
-    let s = c .before .before .before .before in
-    let l = c .before .before .before .before .before .before .before .loop in
-    (omega arith, l .inv .1, so-far s (c .before .if1 .left), s .size-step .ensures .answers (c .before .if1 .left))
-
-same-length-2 : tie.Need-same-length-2 Inv-loop μ-loop
-same-length-2 c =
-    let b = c .before .before .before .before .before .before .before in
-    ap length (c .before .loop .inv .3) ∙ length-answers (b .args .words .now) (b .pre .0) (b .args .measure) (b .args .p) (b .args .q) (b .args .features .now) (b .pre .2) (c .before .loop .y) ∙ sym (ap length (b .pre .4) ∙ length-answers (b .args .words .now) (b .pre .0) (b .args .measure) (b .args .p) (b .args .q) (b .args .features .now) (b .pre .2) 0)
-
-returns-2 : tie.Need-returns-2 Inv-loop μ-loop
-unfolding touchesOf
-returns-2 c =
-    let b = c .before .before .before .before .before .before .before in
-    let l = c .before .loop in
-    let e : l .y ≡ sizesEnd = omega arith in
-    record {
-      spent = subst (λ (y : ℕ). Spending (sumBelow y (touchesOfSize (b .args .words .now) (b .args .measure) (b .args .p) (b .args .q) (b .args .features .now))) (b .args .allowance) false (l .touches)) e (l .inv .2);
-      answers = λ z. l .inv .3 ∙ ap (answersTable (b .args .words .now) (b .args .measure) (b .args .p) (b .args .q) (b .args .features .now)) e;
-      none = λ z. absurd (true≢false (sym z));
-      stopped = λ z. absurd (true≢false (sym z));
-    }
+returns : tie.Need-returns
+returns c = c .before .before .before .before .before .before .before .each-size .ensures
 
 pub all-sizes-spec : {M : Type 1} → statement M
 all-sizes-spec =
     tie.close
     (tie.spec
-    Inv-loop
-    μ-loop
-    sizes-present-requires
-    loop-holds
-    mul-size-step
-    array-read-size-step
-    sub-size-step
-    size-step-requires
+    slice-aggregate-each-size
+    array-borrow-prefix-keys
+    slice-aggregate-each-size-2
+    array-borrow-prefix-spare
+    slice-aggregate-each-size-3
+    slice-aggregate-each-size-4
+    slice-aggregate-each-size-5
+    each-size-requires
     same-length
-    returns
-    add-touches
-    add-y
-    loop-less
-    loop-again
-    same-length-2
-    returns-2)
+    returns)

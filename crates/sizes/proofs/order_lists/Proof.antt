@@ -7,8 +7,7 @@ use native.Mathlib.Omega.{arith}
 use borrow.Author.Needs.{needs}
 use borrow.Author.Tests.{le-leb, lt-leb}
 use lib.Dec.{leb}
-use lib.ListN.{length, getD, drop, replicate, drop-of-length-le, List·getD-append}
-use lib.Seq.{length-take-le}
+use lib.ListN.{length, getD, drop, drop-of-length-le, List·getD-append}
 use Rattle.laws.specs.Lists.{tabulate}
 use Rattle.laws.specs.Sort.{sortOf}
 use Rattle.laws.proofs.Lists.{length-tabulate, getD-tabulate}
@@ -27,19 +26,15 @@ same-length-2 c = search needs
 
 returns : tie.Need-returns
 returns c =
-    let b = c .before .before .before .before .before .before .before .before .before .before .before .before in
+    let b = c .before .before .before .before .before .before .before .before .before .before .before .before .before in
     let f = c .before .before .before .before .before .find-lists .ensures .1 in
     let e : false ≡ leb (b .args .least) (filledOf (b .args .words .now) (b .args .size) (b .args .features .now) (length (b .args .features .now))) = sym (lt-leb _ _ (rw f at (c .if1 .taken))) in
     (e, λ q. absurd (true≢false (sym q)))
 
-array-borrow-prefix-spare : tie.Need-array-borrow-prefix-spare
-array-borrow-prefix-spare c = search needs
-
-slice-aggregate-sort : tie.Need-slice-aggregate-sort
-slice-aggregate-sort c = sym (length-take-le {A = ℕ} (length (c .before .before .before .before .before .before .before .before .before .before .before .before .before .before .args .features .now)) (replicate 66 0) (c .before .before .before .before .before .before .before .before .before .before .before .before .before .before .pre .1))
-
 sort-requires : tie.Need-sort-requires
-sort-requires c κs = length-take-le {A = ℕ} (length (c .before .before .before .before .before .before .before .before .before .before .before .before .before .before .args .features .now)) (replicate 66 0) (c .before .before .before .before .before .before .before .before .before .before .before .before .before .before .pre .1) ∙ sym (c .before .before .before .before .before .before .before .find-lists .kept .1 .1 .1 .1 .0 ∙ c .before .before .before .before .before .before .before .before .before .before .before .before .before .before .pre .3)
+sort-requires c κs =
+    let b = c .before .before .before .before .before .before .before .before .before .before .before .before .before .before .before in
+    b .pre .4 ∙ sym (c .before .before .before .before .before .before .before .find-lists .kept .1 .1 .1 .1 .0 ∙ b .pre .3)
 
 same-length-3 : tie.Need-same-length-3
 same-length-3 c = search needs
@@ -47,19 +42,22 @@ same-length-3 c = search needs
 same-length-4 : tie.Need-same-length-4
 same-length-4 c = search needs
 
+same-length-5 : tie.Need-same-length-5
+same-length-5 c = search needs
+
 returns-2 : tie.Need-returns-2
 returns-2 c =
-    let b = c .before .before .before .before .before .before .before .before .before .before .before .before .before .before .before .before .before .before in
-    let f = c .before .before .before .before .before .before .before .before .before .before .before .find-lists .ensures .0 in
-    let n = c .before .before .before .before .before .before .before .before .before .before .before .find-lists .ensures .1 in
+    let b = c .before .before .before .before .before .before .before .before .before .before .before .before .before .before .before .before .before .before .before .before in
+    let f = c .before .before .before .before .before .before .before .before .before .before .before .before .find-lists .ensures .0 in
+    let n = c .before .before .before .before .before .before .before .before .before .before .before .before .find-lists .ensures .1 in
     let x = length (b .args .features .now) in
     let ke = smallKey (b .args .words .now) (b .args .size) (b .args .features .now) in
     let st = startOf (b .args .words .now) (b .args .size) (b .args .features .now) in
     let none : drop x (b .args .keys .now) ≡ _ = drop-of-length-le (b .args .keys .now) {i = x} (let q = b .pre .3 in omega arith) in
-    let e : true ≡ leb (b .args .least) (filledOf (b .args .words .now) (b .args .size) (b .args .features .now) x) = sym (le-leb _ _ (rw n at (c .before .before .before .before .before .before .if1 .left))) in (
+    let e : true ≡ leb (b .args .least) (filledOf (b .args .words .now) (b .args .size) (b .args .features .now) x) = sym (le-leb _ _ (rw n at (c .before .before .before .before .before .before .before .if1 .left))) in (
       e,
       λ q. (
-        c .before .before .before .sort .ensures ∙ ap sortOf (f .1 ∙ ap (λ (l : List ℕ). tabulate ke x ++ l) none ∙ append-nil (tabulate ke x)),
+        c .before .before .before .before .sort .ensures ∙ ap sortOf (f .1 ∙ ap (λ (l : List ℕ). tabulate ke x ++ l) none ∙ append-nil (tabulate ke x)),
         λ j h.
             ap (λ (l : List ℕ). getD l j 0) (f .0)
             ∙ List·getD-append (tabulate st x) (drop x (b .args .starts .now)) 0 j (rw (length-tabulate st x) h)
@@ -75,9 +73,8 @@ order-lists-spec =
     same-length
     same-length-2
     returns
-    array-borrow-prefix-spare
-    slice-aggregate-sort
     sort-requires
     same-length-3
     same-length-4
+    same-length-5
     returns-2)
