@@ -65,7 +65,7 @@ enum rushgirdle_measure {
  * first call takes its own besides. */
 #define RUSHGIRDLE_STACK_BUILD 280000  /* rushgirdle_build */
 #define RUSHGIRDLE_STACK_INDEX 6000    /* rushgirdle_good, rushgirdle_list */
-#define RUSHGIRDLE_STACK_SEARCH 14000  /* rushgirdle_search */
+#define RUSHGIRDLE_STACK_SEARCH 15000  /* rushgirdle_search */
 #define RUSHGIRDLE_STACK_ROWS 18000    /* rushgirdle_search_rows */
 #define RUSHGIRDLE_STACK_FRAMES 256    /* each function that reads or writes a frame */
 
