@@ -71,14 +71,14 @@ held-table-step ids ls k h =
 -- ---- one later feature more
 
 -- what a test makes of a count that is there, and of one that is not
-tested-some : (ids l : List ℕ) (left least : ℕ) (counts : List ℕ) (i c n : ℕ) → ltb i (length ids) ≡ true → getD counts i 0 ≡ c → 1 ≤ c
-    → n ≡ c + cond (member (getD ids i 0) l) 1 0 → testedAt ids l left least counts i ≡ cond (ltb (n + left) least) 0 n
+tested-some : (ids l : List ℕ) (needed : ℕ) (counts : List ℕ) (i c n : ℕ) → ltb i (length ids) ≡ true → getD counts i 0 ≡ c → 1 ≤ c
+    → n ≡ c + cond (member (getD ids i 0) l) 1 0 → testedAt ids l needed counts i ≡ cond (ltb n needed) 0 n
 unfolding testedAt holdsAt
-tested-some ids l left least counts i c n b e o m = rw (b, e, ne-eqb c 0 (λ z. omega arith), ← m)
+tested-some ids l needed counts i c n b e o m = rw (b, e, ne-eqb c 0 (λ z. omega arith), ← m)
 
-tested-none : (ids l : List ℕ) (left least : ℕ) (counts : List ℕ) (i : ℕ) → getD counts i 0 ≡ 0 → testedAt ids l left least counts i ≡ 0
+tested-none : (ids l : List ℕ) (needed : ℕ) (counts : List ℕ) (i : ℕ) → getD counts i 0 ≡ 0 → testedAt ids l needed counts i ≡ 0
 unfolding testedAt
-tested-none ids l left least counts i e = rw (eq-eqb (getD counts i 0) 0 e)
+tested-none ids l needed counts i e = rw (eq-eqb (getD counts i 0) 0 e)
 
 -- who remains after one feature more
 remains-after : (ls : List (List ℕ)) (t d id : ℕ)
@@ -155,18 +155,19 @@ module _ (ids : List ℕ) (ls : List (List ℕ)) (t : ℕ) (low : 1 ≤ t) (high
       ∙ sum-below-ext mostNames (λ (i : ℕ). cond (leb 1 (getD (remainTable ids ls t d) i 0)) 1 0) (λ (i : ℕ). cond (remainsAt ids ls t d i) 1 0)
       (λ i l. ap (λ (x : Bool). cond x 1 0) (remain-those d h i l))
 
-  by-sum : (n left : ℕ) → (t ≤ n + left) ⊎ (n + left < t) → cond (ltb (n + left) t) 0 n ≡ cond (leb t (n + left)) n 0
-  by-sum n left o =
+  -- what is needed is there exactly if with `left` more it reaches t
+  by-sum : (n needed left : ℕ) → needed + left ≡ t → (needed ≤ n) ⊎ (n < needed) → cond (ltb n needed) 0 n ≡ cond (leb t (n + left)) n 0
+  by-sum n needed left e o =
       ⊎-elim
-      (λ (k : t ≤ n + left). rw (le-ltb (n + left) t k, le-leb t (n + left) k))
-      (λ (k : n + left < t). rw (lt-ltb (n + left) t k, lt-leb t (n + left) k))
+      (λ (k : needed ≤ n). rw (le-ltb n needed k, le-leb t (n + left) (omega arith)))
+      (λ (k : n < needed). rw (lt-ltb n needed k, lt-leb t (n + left) (omega arith)))
       o
 
-  remain-tested : (d left : ℕ) → d < laterCount ls t → left ≡ length ls - (signatures (length ls) t + d) - 1
+  remain-tested : (d needed : ℕ) → d < laterCount ls t → needed + (length ls - (signatures (length ls) t + d) - 1) ≡ t
       → (i : ℕ) → i < mostNames → (b : Bool) → remainsAt ids ls t d i ≡ b
-      → testedAt ids (getD ls (signatures (length ls) t + d) []) left t (remainTable ids ls t d) i
+      → testedAt ids (getD ls (signatures (length ls) t + d) []) needed (remainTable ids ls t d) i
       ≡ cond (remainsAt ids ls t (d + 1) i) (heldBy (take (signatures (length ls) t + (d + 1)) ls) (getD ids i 0)) 0
-  remain-tested d left h e i l true q =
+  remain-tested d needed h e i l true q =
       let p = at-remains ids ls t d i q in
       let k : signatures (length ls) t + (d + 1) ≡ (signatures (length ls) t + d) + 1 = omega arith in
       let c = heldBy (take (signatures (length ls) t + d) ls) (getD ids i 0) in
@@ -174,22 +175,23 @@ module _ (ids : List ℕ) (ls : List (List ℕ)) (t : ℕ) (low : 1 ≤ t) (high
       let x : n ≡ c + cond (member (getD ids i 0) (getD ls (signatures (length ls) t + d) [])) 1 0 =
       ap (λ (m : ℕ). heldBy (take m ls) (getD ids i 0)) k ∙ held-step ls (getD ids i 0) (signatures (length ls) t + d) (omega arith)
       in
+      let left = length ls - (signatures (length ls) t + d) - 1 in
       let z : length ls - (signatures (length ls) t + (d + 1)) ≡ left = omega arith in
-      tested-some ids (getD ls (signatures (length ls) t + d) []) left t (remainTable ids ls t d) i c n (p .0) (remain-value ids ls t d i l ∙ (rw q)) (remains-some d (getD ids i 0) (omega arith) (p .1)) x
-      ∙ by-sum n left (le-or-lt t (n + left))
+      tested-some ids (getD ls (signatures (length ls) t + d) []) needed (remainTable ids ls t d) i c n (p .0) (remain-value ids ls t d i l ∙ (rw q)) (remains-some d (getD ids i 0) (omega arith) (p .1)) x
+      ∙ by-sum n needed left e (le-or-lt needed n)
       ∙ ap (λ (b : Bool). cond b n 0) (sym (at-stays ids ls t d i q ∙ ap (λ (m : ℕ). leb t (n + m)) z))
-  remain-tested d left h e i l false q =
-      tested-none ids (getD ls (signatures (length ls) t + d) []) left t (remainTable ids ls t d) i (remain-value ids ls t d i l ∙ (rw q))
+  remain-tested d needed h e i l false q =
+      tested-none ids (getD ls (signatures (length ls) t + d) []) needed (remainTable ids ls t d) i (remain-value ids ls t d i l ∙ (rw q))
       ∙ ap (λ (b : Bool). cond b (heldBy (take (signatures (length ls) t + (d + 1)) ls) (getD ids i 0)) 0) (sym (at-gone ids ls t d i q))
 
   -- the test against the next list
-  pub remain-step : (d left : ℕ) → d < laterCount ls t → left ≡ length ls - (signatures (length ls) t + d) - 1
-      → tested ids (getD ls (signatures (length ls) t + d) []) left t (remainTable ids ls t d) ≡ remainTable ids ls t (d + 1)
+  pub remain-step : (d needed : ℕ) → d < laterCount ls t → needed + (length ls - (signatures (length ls) t + d) - 1) ≡ t
+      → tested ids (getD ls (signatures (length ls) t + d) []) needed (remainTable ids ls t d) ≡ remainTable ids ls t (d + 1)
   unfolding tested remainTable
-  remain-step d left h e =
-      tabulate-ext (testedAt ids (getD ls (signatures (length ls) t + d) []) left t (remainTable ids ls t d))
+  remain-step d needed h e =
+      tabulate-ext (testedAt ids (getD ls (signatures (length ls) t + d) []) needed (remainTable ids ls t d))
       (λ (i : ℕ). cond (remainsAt ids ls t (d + 1) i) (heldBy (take (signatures (length ls) t + (d + 1)) ls) (getD ids i 0)) 0) mostNames
-      (λ i l. remain-tested d left h e i l (remainsAt ids ls t d i) refl)
+      (λ i l. remain-tested d needed h e i l (remainsAt ids ls t d i) refl)
 
 -- ---- the lists as the code cuts them
 

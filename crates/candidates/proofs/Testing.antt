@@ -46,7 +46,7 @@ distinct-fresh (x ∷ l) (suc k) d h = by-test (eqb (getD l k 0) x) refl (distin
         absurd (true≢false (sym (member-at l k (omega arith)) ∙ ap (λ (y : ℕ). member y l) (eqb-true (getD l k 0) x q) ∙ d .0))
     by-test false q r = r
 
-module _ (ids l : List ℕ) (left least : ℕ) (counts₀ met₀ : List ℕ) (m₀ : ℕ) where
+module _ (ids l : List ℕ) (needed : ℕ) (counts₀ met₀ : List ℕ) (m₀ : ℕ) where
   -- after the first k candidates: their counts are tested and the others' are as before, those that stay stand in front, the rest is unread
   pub record Testing (counts met : List ℕ) (m k : ℕ) : Type 0 where
     pub passed : k ≤ m₀
@@ -54,8 +54,8 @@ module _ (ids l : List ℕ) (left least : ℕ) (counts₀ met₀ : List ℕ) (m�
     pub wide : length counts ≡ mostNames
     pub long : length met ≡ mostNames
     pub long₀ : length met₀ ≡ mostNames
-    pub counted : (i : ℕ) → getD counts i 0 ≡ cond (member i (take k met₀)) (testedAt ids l left least counts₀ i) (getD counts₀ i 0)
-    pub stay : take m met ≡ filterOf (λ (i : ℕ). leb 1 (testedAt ids l left least counts₀ i)) (take k met₀)
+    pub counted : (i : ℕ) → getD counts i 0 ≡ cond (member i (take k met₀)) (testedAt ids l needed counts₀ i) (getD counts₀ i 0)
+    pub stay : take m met ≡ filterOf (λ (i : ℕ). leb 1 (testedAt ids l needed counts₀ i)) (take k met₀)
     pub unread : drop k met ≡ drop k met₀
 
   pub testing-starts : length counts₀ ≡ mostNames → length met₀ ≡ mostNames → Testing counts₀ met₀ 0 0
@@ -68,7 +68,7 @@ module _ (ids l : List ℕ) (left least : ℕ) (counts₀ met₀ : List ℕ) (m�
         long = f;
         long₀ = f;
         counted = λ i. refl;
-        stay = sym (filter-nil (λ (i : ℕ). leb 1 (testedAt ids l left least counts₀ i)));
+        stay = sym (filter-nil (λ (i : ℕ). leb 1 (testedAt ids l needed counts₀ i)));
         unread = refl;
       }
 
@@ -119,9 +119,9 @@ module _ (ids l : List ℕ) (left least : ℕ) (counts₀ met₀ : List ℕ) (m�
     take-next = ap (λ (n : ℕ). take n met₀) (add-one k) ∙ take-suc met₀ k 0 inside
 
     -- the counts after the candidate's count is stored
-    counted-next : (v : ℕ) → v ≡ testedAt ids l left least counts₀ (getD met₀ k 0) → (i : ℕ)
+    counted-next : (v : ℕ) → v ≡ testedAt ids l needed counts₀ (getD met₀ k 0) → (i : ℕ)
         → getD (set counts (getD met₀ k 0) v) i 0
-        ≡ cond (member i (take (k + 1) met₀)) (testedAt ids l left least counts₀ i) (getD counts₀ i 0)
+        ≡ cond (member i (take (k + 1) met₀)) (testedAt ids l needed counts₀ i) (getD counts₀ i 0)
     unfolding member
     counted-next v e i =
         rw (take-next, member-append i (take k met₀) (getD met₀ k 0 ∷ []))
@@ -134,16 +134,16 @@ module _ (ids l : List ℕ) (left least : ℕ) (counts₀ met₀ : List ℕ) (m�
         (getD-set-other counts (getD met₀ k 0) i v 0 q ∙ t .counted i ∙ neither (member i (take k met₀))))
         (eq-or-ne i (getD met₀ k 0)))
       where
-        either : (b : Bool) → testedAt ids l left least counts₀ (getD met₀ k 0) ≡ cond (b || (true || false)) (testedAt ids l left least counts₀ (getD met₀ k 0)) (getD counts₀ (getD met₀ k 0) 0)
+        either : (b : Bool) → testedAt ids l needed counts₀ (getD met₀ k 0) ≡ cond (b || (true || false)) (testedAt ids l needed counts₀ (getD met₀ k 0)) (getD counts₀ (getD met₀ k 0) 0)
         either true = refl
         either false = refl
 
-        neither : (b : Bool) → cond b (testedAt ids l left least counts₀ i) (getD counts₀ i 0) ≡ cond (b || (false || false)) (testedAt ids l left least counts₀ i) (getD counts₀ i 0)
+        neither : (b : Bool) → cond b (testedAt ids l needed counts₀ i) (getD counts₀ i 0) ≡ cond (b || (false || false)) (testedAt ids l needed counts₀ i) (getD counts₀ i 0)
         neither true = refl
         neither false = refl
 
     -- a candidate that is dropped
-    pub testing-drops : testedAt ids l left least counts₀ (getD met₀ k 0) ≡ 0 → Testing (set counts (getD met₀ k 0) 0) met m (k + 1)
+    pub testing-drops : testedAt ids l needed counts₀ (getD met₀ k 0) ≡ 0 → Testing (set counts (getD met₀ k 0) 0) met m (k + 1)
     testing-drops e =
         record {
           passed = omega arith;
@@ -155,14 +155,14 @@ module _ (ids l : List ℕ) (left least : ℕ) (counts₀ met₀ : List ℕ) (m�
           stay =
               t .stay
               ∙ sym
-              (ap (filterOf (λ (i : ℕ). leb 1 (testedAt ids l left least counts₀ i))) take-next
-              ∙ filter-snoc (λ (i : ℕ). leb 1 (testedAt ids l left least counts₀ i)) (take k met₀) (getD met₀ k 0)
-              ∙ (rw e (append-nil (filterOf (λ (i : ℕ). leb 1 (testedAt ids l left least counts₀ i)) (take k met₀)))));
+              (ap (filterOf (λ (i : ℕ). leb 1 (testedAt ids l needed counts₀ i))) take-next
+              ∙ filter-snoc (λ (i : ℕ). leb 1 (testedAt ids l needed counts₀ i)) (take k met₀) (getD met₀ k 0)
+              ∙ (rw e (append-nil (filterOf (λ (i : ℕ). leb 1 (testedAt ids l needed counts₀ i)) (take k met₀)))));
           unread = drop-next met met₀ k (t .unread);
         }
 
     -- a candidate that stays, with its count v
-    pub testing-keeps : (v : ℕ) → v ≡ testedAt ids l left least counts₀ (getD met₀ k 0) → 1 ≤ v
+    pub testing-keeps : (v : ℕ) → v ≡ testedAt ids l needed counts₀ (getD met₀ k 0) → 1 ≤ v
         → Testing (set counts (getD met₀ k 0) v) (set met m (getD met₀ k 0)) (m + 1) (k + 1)
     testing-keeps v e one =
         let f = t .front in
@@ -183,30 +183,30 @@ module _ (ids l : List ℕ) (left least : ℕ) (counts₀ met₀ : List ℕ) (m�
               ∙ take-suc-set met m (getD met₀ k 0) room
               ∙ ap (λ (r : List ℕ). r ++ (getD met₀ k 0 ∷ [])) (t .stay)
               ∙ sym
-              (ap (filterOf (λ (i : ℕ). leb 1 (testedAt ids l left least counts₀ i))) take-next
-              ∙ filter-snoc (λ (i : ℕ). leb 1 (testedAt ids l left least counts₀ i)) (take k met₀) (getD met₀ k 0)
+              (ap (filterOf (λ (i : ℕ). leb 1 (testedAt ids l needed counts₀ i))) take-next
+              ∙ filter-snoc (λ (i : ℕ). leb 1 (testedAt ids l needed counts₀ i)) (take k met₀) (getD met₀ k 0)
               ∙ (rw (← e, le-leb 1 v one)));
           unread = drop-set-lt (k + 1) met m (getD met₀ k 0) (omega arith) ∙ drop-next met met₀ k (t .unread);
         }
 
   -- who had no count keeps none
-  tested-none : (i : ℕ) → getD counts₀ i 0 ≡ 0 → testedAt ids l left least counts₀ i ≡ 0
+  tested-none : (i : ℕ) → getD counts₀ i 0 ≡ 0 → testedAt ids l needed counts₀ i ≡ 0
   unfolding testedAt
   tested-none i e = rw (eq-eqb (getD counts₀ i 0) 0 e)
 
   -- after all candidates: every count is tested, and those met are those that stay
   pub testing-ends : MetBy counts₀ met₀ m₀ → (counts met : List ℕ) (m : ℕ) → Testing counts met m m₀
-      → (counts ≡ tested ids l left least counts₀) × MetBy counts met m
+      → (counts ≡ tested ids l needed counts₀) × MetBy counts met m
   unfolding tested
   testing-ends start counts met m t = (
-    table-of counts mostNames (testedAt ids l left least counts₀) (t .wide) (λ i h. t .counted i ∙ all-tested i (member i (take m₀ met₀)) refl),
+    table-of counts mostNames (testedAt ids l needed counts₀) (t .wide) (λ i h. t .counted i ∙ all-tested i (member i (take m₀ met₀)) refl),
     record {
       within = (let f = t .front in let w = start .within in let a = t .long in let b = t .long₀ in omega arith);
-      distinct = rw (t .stay) (distinct-filter (λ (i : ℕ). leb 1 (testedAt ids l left least counts₀ i)) (take m₀ met₀) (start .distinct));
+      distinct = rw (t .stay) (distinct-filter (λ (i : ℕ). leb 1 (testedAt ids l needed counts₀ i)) (take m₀ met₀) (start .distinct));
       those =
           λ i.
           ap (member i) (t .stay)
-          ∙ member-filter (λ (j : ℕ). leb 1 (testedAt ids l left least counts₀ j)) i (take m₀ met₀)
+          ∙ member-filter (λ (j : ℕ). leb 1 (testedAt ids l needed counts₀ j)) i (take m₀ met₀)
           ∙ rw (t .counted i) (those-left i (member i (take m₀ met₀)) refl);
     },
   )
@@ -214,27 +214,27 @@ module _ (ids l : List ℕ) (left least : ℕ) (counts₀ met₀ : List ℕ) (m�
       none : (i : ℕ) → member i (take m₀ met₀) ≡ false → getD counts₀ i 0 ≡ 0
       none i q = let h = leb-false 1 (getD counts₀ i 0) (sym (start .those i) ∙ q) in omega arith
 
-      all-tested : (i : ℕ) (b : Bool) → member i (take m₀ met₀) ≡ b → cond b (testedAt ids l left least counts₀ i) (getD counts₀ i 0) ≡ testedAt ids l left least counts₀ i
+      all-tested : (i : ℕ) (b : Bool) → member i (take m₀ met₀) ≡ b → cond b (testedAt ids l needed counts₀ i) (getD counts₀ i 0) ≡ testedAt ids l needed counts₀ i
       all-tested i true q = refl
       all-tested i false q = none i q ∙ sym (tested-none i (none i q))
 
       those-left : (i : ℕ) (b : Bool) → member i (take m₀ met₀) ≡ b
-          → b && leb 1 (testedAt ids l left least counts₀ i) ≡ leb 1 (cond b (testedAt ids l left least counts₀ i) (getD counts₀ i 0))
+          → b && leb 1 (testedAt ids l needed counts₀ i) ≡ leb 1 (cond b (testedAt ids l needed counts₀ i) (getD counts₀ i 0))
       those-left i true q = refl
       those-left i false q = sym (ap (leb 1) (none i q))
 
 -- ---- what a test makes of one count
 
-module _ (ids l : List ℕ) (left least : ℕ) (counts : List ℕ) (i c : ℕ) (there : i < length ids) (one : 1 ≤ getD counts i 0)
+module _ (ids l : List ℕ) (needed : ℕ) (counts : List ℕ) (i c : ℕ) (there : i < length ids) (one : 1 ≤ getD counts i 0)
     (e : c ≡ getD counts i 0 + cond (member (getD ids i 0) l) 1 0) where
   held : getD counts i 0 + cond (holdsAt ids l i) 1 0 ≡ c
   unfolding holdsAt
   held = rw (lt-ltb i (length ids) there) (sym e)
 
-  pub tested-drops : c + left < least → testedAt ids l left least counts i ≡ 0
+  pub tested-drops : c < needed → testedAt ids l needed counts i ≡ 0
   unfolding testedAt
-  tested-drops h = rw (ne-eqb (getD counts i 0) 0 (λ z. omega arith), held, lt-ltb (c + left) least h)
+  tested-drops h = rw (ne-eqb (getD counts i 0) 0 (λ z. omega arith), held, lt-ltb c needed h)
 
-  pub tested-stays : least ≤ c + left → testedAt ids l left least counts i ≡ c
+  pub tested-stays : needed ≤ c → testedAt ids l needed counts i ≡ c
   unfolding testedAt
-  tested-stays h = rw (ne-eqb (getD counts i 0) 0 (λ z. omega arith), held, le-ltb (c + left) least h)
+  tested-stays h = rw (ne-eqb (getD counts i 0) 0 (λ z. omega arith), held, le-ltb c needed h)

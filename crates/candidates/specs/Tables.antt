@@ -40,14 +40,14 @@ noCounts = tabulate (λ (i : ℕ). 0) mostNames
 unfoldable pub tallied : List ℕ → List ℕ → List ℕ → List ℕ
 tallied ids l counts = tabulate (λ (i : ℕ). getD counts i 0 + cond (holdsAt ids l i) 1 0) mostNames
 
--- the count after a test: one more where the list holds the name; 0, dropped, where that and `left` more are below `least`, or was 0
-unfoldable pub testedAt : List ℕ → List ℕ → ℕ → ℕ → List ℕ → ℕ → ℕ
-testedAt ids l left least counts i =
+-- the count after a test: one more where the list holds the name; 0, dropped, where that is below what is needed, or was 0
+unfoldable pub testedAt : List ℕ → List ℕ → ℕ → List ℕ → ℕ → ℕ
+testedAt ids l needed counts i =
     cond (eqb (getD counts i 0) 0) 0
-    (cond (ltb (getD counts i 0 + cond (holdsAt ids l i) 1 0 + left) least) 0 (getD counts i 0 + cond (holdsAt ids l i) 1 0))
+    (cond (ltb (getD counts i 0 + cond (holdsAt ids l i) 1 0) needed) 0 (getD counts i 0 + cond (holdsAt ids l i) 1 0))
 
-unfoldable pub tested : List ℕ → List ℕ → ℕ → ℕ → List ℕ → List ℕ
-tested ids l left least counts = tabulate (testedAt ids l left least counts) mostNames
+unfoldable pub tested : List ℕ → List ℕ → ℕ → List ℕ → List ℕ
+tested ids l needed counts = tabulate (testedAt ids l needed counts) mostNames
 
 -- the answers with each count that is at least 1 put at its place
 unfoldable pub kept : List ℕ → List ℕ → List ℕ

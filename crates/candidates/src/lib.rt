@@ -55,19 +55,18 @@ fn counted(list: &[u32], id: u32, count: u32, guess: usize) -> Tested
     Tested { count, next: at }
 }
 
-// Tests each candidate against the list, and drops those that stay below `least` with `left` more. Answers how many remain.
+// Tests each candidate against the list, and drops those whose count is then below what is needed. Answers how many remain.
 fn sift(
     ids: &[u32],
     list: &[u32],
     counts: &mut [u32],
     met: &mut [usize],
     already: usize,
-    left: u32,
-    least: u32,
+    needed: u32,
 ) -> usize
-    requires { ⌜ (length (now ids) ≤ mostNames) × Ascending (now list) × (left ≤ 65535) ⌝ }
+    requires { ⌜ (length (now ids) ≤ mostNames) × Ascending (now list) ⌝ }
     requires { ⌜ (length (now counts) ≡ mostNames) × (length (now met) ≡ mostNames) × MetBy (now counts) (now met) already × ((i : ℕ) → getD (now counts) i 0 ≤ 65535) × ((i : ℕ) → 1 ≤ getD (now counts) i 0 → i < length (now ids)) ⌝ }
-    ensures { λ r. ⌜ (now (counts .exit) ≡ tested (now (ids .entry)) (now (list .entry)) left least (now (counts .entry))) × MetBy (now (counts .exit)) (now (met .exit)) r ⌝ }
+    ensures { λ r. ⌜ (now (counts .exit) ≡ tested (now (ids .entry)) (now (list .entry)) needed (now (counts .entry))) × MetBy (now (counts .exit)) (now (met .exit)) r ⌝ }
 {
     let mut m = 0;
     let mut next = 0;
@@ -78,7 +77,7 @@ fn sift(
         let count = test.count;
         next = test.next;
         k += 1;
-        if count + left < least {
+        if count < needed {
             counts[i] = 0;
         } else {
             counts[i] = count;
@@ -180,7 +179,7 @@ fn narrow(
         }
         touches += m;
         let list = list_in(words, keys, starts, k);
-        m = sift(ids, list, counts, met, m, (x - k - 1) as u32, least as u32);
+        m = sift(ids, list, counts, met, m, (least - (x - k - 1)) as u32);
         k += 1;
     }
     Walk {

@@ -15,6 +15,10 @@ use Rattle.candidates.proofs.Counts.{length-cut, getD-cut, length-remai
 use Rattle.candidates.proofs.narrow.Statement.{statement}
 use Rattle.candidates.proofs.narrow.Tie as tie
 
+-- what is needed before the lists that are left: together they are the least count
+with-those-left : (x least k : ℕ) → x - least + 1 ≤ k → least - (x - k - 1) + (x - k - 1) ≡ least
+with-those-left x least k h = omega arith
+
 abbrev Inv-loop : tie.InvT-loop
 Inv-loop words ids keys starts least budget counts₀ met₀ already x m₀ touches₀ k₀ counts met m touches k =
     (x ≡ length keys) × (x - least + 1 ≤ k) × (k ≤ x) × (length counts ≡ mostNames) × (length met ≡ mostNames)
@@ -117,11 +121,11 @@ sub-sift c = let i = c .before .before .before .before .before .loop .inv .0 in 
 sub-sift-2 : tie.Need-sub-sift-2 Inv-loop μ-loop
 sub-sift-2 c = let i = c .before .before .before .before .before .loop .inv .0 in let t = c .before .before .before .before .loop-test .taken in omega arith
 
-cast-sift : tie.Need-cast-sift Inv-loop μ-loop
-cast-sift c = let p = c .before .before .before .before .before .before .before .before .before .before .before .before .pre .0 .2 in omega arith
+sub-sift-3 : tie.Need-sub-sift-3 Inv-loop μ-loop
+sub-sift-3 c = let i = c .before .before .before .before .before .loop .inv in let p = c .before .before .before .before .before .before .before .before .before .before .before .before .pre .0 in omega arith
 
-cast-sift-2 : tie.Need-cast-sift-2 Inv-loop μ-loop
-cast-sift-2 c = let p = c .before .before .before .before .before .before .before .before .before .before .before .before .pre .0 in omega arith
+cast-sift : tie.Need-cast-sift Inv-loop μ-loop
+cast-sift c = let p = c .before .before .before .before .before .before .before .before .before .before .before .before .pre .0 in omega arith
 
 sift-requires : tie.Need-sift-requires Inv-loop μ-loop
 sift-requires c κs =
@@ -135,7 +139,7 @@ sift-requires c κs =
     let ls = cutLists (b .args .words .now) (b .args .keys .now) (b .args .starts .now) in
     let n = length-cut (b .args .words .now) (b .args .keys .now) (b .args .starts .now) in
     let d = l .k - (length (b .args .keys .now) - b .args .least + 1) in (
-      (b .pre .0 .0, rw e (r .ascending (l .k) kl), omega arith),
+      (b .pre .0 .0, rw e (r .ascending (l .k) kl)),
       (
         l .inv .3,
         l .inv .4,
@@ -171,7 +175,8 @@ loop-again c =
     let list : c .before .before .before .before .before .before .before .list-in .result .now ≡ getD ls (signatures (length ls) (b .args .least) + d) [] =
     c .before .before .before .before .before .before .before .list-in .ensures .0 ∙ sym (getD-cut (b .args .words .now) (b .args .keys .now) (b .args .starts .now) (l .k) kl) ∙ ap (λ (k : ℕ). getD ls k []) (sym h)
     in
-    let left : length (b .args .keys .now) - l .k - 1 ≡ length ls - (signatures (length ls) (b .args .least) + d) - 1 = ap₂ (λ (a k : ℕ). a - k - 1) (sym (t .count)) (sym h) in (
+    let needed = b .args .least - (length (b .args .keys .now) - l .k - 1) in
+    let whole : needed + (length ls - (signatures (length ls) (b .args .least) + d) - 1) ≡ b .args .least = ap₂ (λ (a k : ℕ). needed + (a - k - 1)) (t .count) h ∙ with-those-left (length (b .args .keys .now)) (b .args .least) (l .k) (l .inv .1) in (
       l .inv .0,
       (let q = l .inv .1 in omega arith),
       omega arith,
@@ -180,8 +185,8 @@ loop-again c =
       (let q : l .touches + l .m ≡ laterTouches (b .args .ids .now) ls (b .args .least) (d + 1) = omega arith in q) ∙ ap (laterTouches (b .args .ids .now) ls (b .args .least)) (sym e),
       omega arith,
       y .ensures .0
-          ∙ ap₂ (λ (a v : List ℕ). tested (b .args .ids .now) a (length (b .args .keys .now) - l .k - 1) (b .args .least) v) list (l .inv .7)
-          ∙ remain-step (b .args .ids .now) ls (b .args .least) (p .3) (let q = t .count in omega arith) d (length (b .args .keys .now) - l .k - 1) (t .later) left
+          ∙ ap₂ (λ (a v : List ℕ). tested (b .args .ids .now) a needed v) list (l .inv .7)
+          ∙ remain-step (b .args .ids .now) ls (b .args .least) (p .3) (let q = t .count in omega arith) d needed (t .later) whole
           ∙ ap (remainTable (b .args .ids .now) ls (b .args .least)) (sym e),
       y .ensures .1,
     )
@@ -225,8 +230,8 @@ narrow-spec =
     list-in-requires
     sub-sift
     sub-sift-2
+    sub-sift-3
     cast-sift
-    cast-sift-2
     sift-requires
     add-k-2
     loop-less

@@ -13,11 +13,11 @@ use Rattle.candidates.proofs.sift.Statement.{statement}
 use Rattle.candidates.proofs.sift.Tie as tie
 
 abbrev Inv-loop : tie.InvT-loop
-Inv-loop ids list counts₀ met₀ already left least m₀ next₀ k₀ counts met m next k =
-    Testing ids list left least counts₀ met₀ already counts met m k
+Inv-loop ids list counts₀ met₀ already needed m₀ next₀ k₀ counts met m next k =
+    Testing ids list needed counts₀ met₀ already counts met m k
 
 abbrev μ-loop : tie.MeasureT-loop
-μ-loop ids list counts₀ met₀ already left least m₀ next₀ k₀ counts met m next k = already - k
+μ-loop ids list counts₀ met₀ already needed m₀ next₀ k₀ counts met m next k = already - k
 
 -- the candidate of this turn, and what is known of its place and count
 pub record Turn (c : tie.In-loop Inv-loop μ-loop) : Type 0 where
@@ -31,10 +31,10 @@ pub record Turn (c : tie.In-loop Inv-loop μ-loop) : Type 0 where
 turn : (c : tie.In-loop Inv-loop μ-loop) → Turn c
 turn c =
     let b = c .before .before .before .before .before .before in
-    let n = next-candidate (b .args .ids .now) (b .args .list .now) (b .args .left) (b .args .least) (b .args .counts .now) (b .args .met .now) (b .args .already) (b .pre .1 .2) (c .before .loop .counts) (c .before .loop .met) (c .before .loop .m) (c .before .loop .k) (c .before .loop .inv) (c .loop-test .taken) in
-    let w = count-before (b .args .ids .now) (b .args .list .now) (b .args .left) (b .args .least) (b .args .counts .now) (b .args .met .now) (b .args .already) (b .pre .1 .2) (c .before .loop .counts) (c .before .loop .met) (c .before .loop .m) (c .before .loop .k) (c .before .loop .inv) (c .loop-test .taken) in
-    let o = count-positive (b .args .ids .now) (b .args .list .now) (b .args .left) (b .args .least) (b .args .counts .now) (b .args .met .now) (b .args .already) (b .pre .1 .2) (c .before .loop .counts) (c .before .loop .met) (c .before .loop .m) (c .before .loop .k) (c .before .loop .inv) (c .loop-test .taken) in
-    let p = place-within (b .args .ids .now) (b .args .list .now) (b .args .left) (b .args .least) (b .args .counts .now) (b .args .met .now) (b .args .already) (b .pre .1 .2) (c .before .loop .counts) (c .before .loop .met) (c .before .loop .m) (c .before .loop .k) (c .before .loop .inv) (c .loop-test .taken) in
+    let n = next-candidate (b .args .ids .now) (b .args .list .now) (b .args .needed) (b .args .counts .now) (b .args .met .now) (b .args .already) (b .pre .1 .2) (c .before .loop .counts) (c .before .loop .met) (c .before .loop .m) (c .before .loop .k) (c .before .loop .inv) (c .loop-test .taken) in
+    let w = count-before (b .args .ids .now) (b .args .list .now) (b .args .needed) (b .args .counts .now) (b .args .met .now) (b .args .already) (b .pre .1 .2) (c .before .loop .counts) (c .before .loop .met) (c .before .loop .m) (c .before .loop .k) (c .before .loop .inv) (c .loop-test .taken) in
+    let o = count-positive (b .args .ids .now) (b .args .list .now) (b .args .needed) (b .args .counts .now) (b .args .met .now) (b .args .already) (b .pre .1 .2) (c .before .loop .counts) (c .before .loop .met) (c .before .loop .m) (c .before .loop .k) (c .before .loop .inv) (c .loop-test .taken) in
+    let p = place-within (b .args .ids .now) (b .args .list .now) (b .args .needed) (b .args .counts .now) (b .args .met .now) (b .args .already) (b .pre .1 .2) (c .before .loop .counts) (c .before .loop .met) (c .before .loop .m) (c .before .loop .k) (c .before .loop .inv) (c .loop-test .taken) in
     let v : getD (c .before .loop .counts) (getD (c .before .loop .met) (c .before .loop .k) 0) 0 ≡ getD (b .args .counts .now) (getD (c .before .loop .met) (c .before .loop .k) 0) 0 =
     ap (λ (i : ℕ). getD (c .before .loop .counts) i 0) n ∙ w ∙ ap (λ (i : ℕ). getD (b .args .counts .now) i 0) (sym n)
     in
@@ -49,7 +49,7 @@ turn c =
     }
 
 loop-holds : tie.Need-loop-holds Inv-loop μ-loop
-loop-holds c = let b = c .before .before .before .before in testing-starts (b .args .ids .now) (b .args .list .now) (b .args .left) (b .args .least) (b .args .counts .now) (b .args .met .now) (b .args .already) (b .pre .1 .0) (b .pre .1 .1)
+loop-holds c = let b = c .before .before .before .before in testing-starts (b .args .ids .now) (b .args .list .now) (b .args .needed) (b .args .counts .now) (b .args .met .now) (b .args .already) (b .pre .1 .0) (b .pre .1 .1)
 
 mul-i : tie.Need-mul-i Inv-loop μ-loop
 mul-i c = let t = c .before .loop .inv in let p = t .long₀ in let b = c .before .before .before .before .before .before .pre .1 .2 .within in omega arith
@@ -75,9 +75,6 @@ counted-requires c κs = let t = turn (c .before .before .before) in (c .before 
 add-k : tie.Need-add-k Inv-loop μ-loop
 add-k c = let t = c .before .before .before .before .before .loop .inv in omega arith
 
-add-if1 : tie.Need-add-if1 Inv-loop μ-loop
-add-if1 c = let b = c .before .before .before .before .before .before .before .before .before .before .pre .0 .2 in omega arith
-
 mul-counts : tie.Need-mul-counts Inv-loop μ-loop
 mul-counts c = let t = turn (c .before .before .before .before .before) in omega arith
 
@@ -97,8 +94,8 @@ loop-again c =
     let v : c .before .counted .result .count ≡ getD (b .args .counts .now) i 0 + cond (member (getD (b .args .ids .now) i 0) (b .args .list .now)) 1 0 =
     c .before .counted .ensures .0 ∙ ap (λ (x : ℕ). x + cond (member (getD (b .args .ids .now) i 0) (b .args .list .now)) 1 0) (t .was)
     in
-    subst (λ (j : ℕ). Testing (b .args .ids .now) (b .args .list .now) (b .args .left) (b .args .least) (b .args .counts .now) (b .args .met .now) (b .args .already) (set (l .loop .counts) j 0) (l .loop .met) (l .loop .m) (l .loop .k + 1)) (sym (t .next))
-    (testing-drops (b .args .ids .now) (b .args .list .now) (b .args .left) (b .args .least) (b .args .counts .now) (b .args .met .now) (b .args .already) (b .pre .1 .2) (l .loop .counts) (l .loop .met) (l .loop .m) (l .loop .k) (l .loop .inv) (d .loop-test .taken) (ap (testedAt (b .args .ids .now) (b .args .list .now) (b .args .left) (b .args .least) (b .args .counts .now)) (sym (t .next)) ∙ tested-drops (b .args .ids .now) (b .args .list .now) (b .args .left) (b .args .least) (b .args .counts .now) i (c .before .counted .result .count) (t .name) (t .one) v (c .if1 .taken)))
+    subst (λ (j : ℕ). Testing (b .args .ids .now) (b .args .list .now) (b .args .needed) (b .args .counts .now) (b .args .met .now) (b .args .already) (set (l .loop .counts) j 0) (l .loop .met) (l .loop .m) (l .loop .k + 1)) (sym (t .next))
+    (testing-drops (b .args .ids .now) (b .args .list .now) (b .args .needed) (b .args .counts .now) (b .args .met .now) (b .args .already) (b .pre .1 .2) (l .loop .counts) (l .loop .met) (l .loop .m) (l .loop .k) (l .loop .inv) (d .loop-test .taken) (ap (testedAt (b .args .ids .now) (b .args .list .now) (b .args .needed) (b .args .counts .now)) (sym (t .next)) ∙ tested-drops (b .args .ids .now) (b .args .list .now) (b .args .needed) (b .args .counts .now) i (c .before .counted .result .count) (t .name) (t .one) v (c .if1 .taken)))
 
 mul-counts-2 : tie.Need-mul-counts-2 Inv-loop μ-loop
 mul-counts-2 c = let t = turn (c .before .before .before .before .before) in omega arith
@@ -128,9 +125,9 @@ loop-again-2 c =
     let v : c .before .counted .result .count ≡ getD (b .args .counts .now) i 0 + cond (member (getD (b .args .ids .now) i 0) (b .args .list .now)) 1 0 =
     c .before .counted .ensures .0 ∙ ap (λ (x : ℕ). x + cond (member (getD (b .args .ids .now) i 0) (b .args .list .now)) 1 0) (t .was)
     in
-    subst (λ (j : ℕ). Testing (b .args .ids .now) (b .args .list .now) (b .args .left) (b .args .least) (b .args .counts .now) (b .args .met .now) (b .args .already) (set (l .loop .counts) j (c .before .counted .result .count)) (set (l .loop .met) (l .loop .m) j) (l .loop .m + 1) (l .loop .k + 1)) (sym (t .next))
-    (testing-keeps (b .args .ids .now) (b .args .list .now) (b .args .left) (b .args .least) (b .args .counts .now) (b .args .met .now) (b .args .already) (b .pre .1 .2) (l .loop .counts) (l .loop .met) (l .loop .m) (l .loop .k) (l .loop .inv) (d .loop-test .taken) (c .before .counted .result .count)
-    (sym (ap (testedAt (b .args .ids .now) (b .args .list .now) (b .args .left) (b .args .least) (b .args .counts .now)) (sym (t .next)) ∙ tested-stays (b .args .ids .now) (b .args .list .now) (b .args .left) (b .args .least) (b .args .counts .now) i (c .before .counted .result .count) (t .name) (t .one) v (c .if1 .left)))
+    subst (λ (j : ℕ). Testing (b .args .ids .now) (b .args .list .now) (b .args .needed) (b .args .counts .now) (b .args .met .now) (b .args .already) (set (l .loop .counts) j (c .before .counted .result .count)) (set (l .loop .met) (l .loop .m) j) (l .loop .m + 1) (l .loop .k + 1)) (sym (t .next))
+    (testing-keeps (b .args .ids .now) (b .args .list .now) (b .args .needed) (b .args .counts .now) (b .args .met .now) (b .args .already) (b .pre .1 .2) (l .loop .counts) (l .loop .met) (l .loop .m) (l .loop .k) (l .loop .inv) (d .loop-test .taken) (c .before .counted .result .count)
+    (sym (ap (testedAt (b .args .ids .now) (b .args .list .now) (b .args .needed) (b .args .counts .now)) (sym (t .next)) ∙ tested-stays (b .args .ids .now) (b .args .list .now) (b .args .needed) (b .args .counts .now) i (c .before .counted .result .count) (t .name) (t .one) v (c .if1 .left)))
     (let o = t .one in omega arith))
 
 same-length : tie.Need-same-length Inv-loop μ-loop
@@ -144,8 +141,8 @@ returns c =
     let b = c .before .before .before .before .before .before in
     let l = c .before in
     let e : l .loop .k ≡ b .args .already = (let p = l .loop .inv .passed in omega arith) in
-    testing-ends (b .args .ids .now) (b .args .list .now) (b .args .left) (b .args .least) (b .args .counts .now) (b .args .met .now) (b .args .already) (b .pre .1 .2) (l .loop .counts) (l .loop .met) (l .loop .m)
-    (subst (λ (k : ℕ). Testing (b .args .ids .now) (b .args .list .now) (b .args .left) (b .args .least) (b .args .counts .now) (b .args .met .now) (b .args .already) (l .loop .counts) (l .loop .met) (l .loop .m) k) e (l .loop .inv))
+    testing-ends (b .args .ids .now) (b .args .list .now) (b .args .needed) (b .args .counts .now) (b .args .met .now) (b .args .already) (b .pre .1 .2) (l .loop .counts) (l .loop .met) (l .loop .m)
+    (subst (λ (k : ℕ). Testing (b .args .ids .now) (b .args .list .now) (b .args .needed) (b .args .counts .now) (b .args .met .now) (b .args .already) (l .loop .counts) (l .loop .met) (l .loop .m) k) e (l .loop .inv))
 
 pub sift-spec : {M : Type 1} → statement M
 sift-spec =
@@ -162,7 +159,6 @@ sift-spec =
     slice-read-counted
     counted-requires
     add-k
-    add-if1
     mul-counts
     slice-write-counts
     loop-less
