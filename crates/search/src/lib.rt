@@ -14,6 +14,7 @@ ghost use Rattle.words.specs.Words.{nameCount, nameId, nameSize};
 ghost use Rattle.sizes.specs.Tables.{idsOf, Covered};
 ghost use Rattle.search.specs.Answers.{questionOf, over, asColumns, Searched};
 ghost use Rattle.search.specs.Places.{placesIn};
+use candidates::Spent;
 use names::FeatureSet;
 
 // What a search answers. specs/Answers.antt sets out the number and the values of each case.
@@ -32,19 +33,17 @@ pub enum Answer {
 
 // ---- the names
 
-// Their ids in order, at the front of a table.
-fn name_ids(words: &[u32]) -> [u32; index::MOST_NAMES]
-    requires { ⌜ Good (now words) ⌝ }
-    ensures { λ r. ⌜ r ≡ idsOf (now (words .entry)) ++ drop (nameCount (now (words .entry))) (replicate mostNames 0) ⌝ }
+// Their ids in order, put at the front of a table.
+fn name_ids(words: &[u32], table: &mut [u32])
+    requires { ⌜ Good (now words) × (nameCount (now words) ≤ length (now table)) ⌝ }
+    ensures { λ _. ⌜ now (table .exit) ≡ idsOf (now (words .entry)) ++ drop (nameCount (now (words .entry))) (now (table .entry)) ⌝ }
 {
     let n = words::name_count(words);
-    let mut table = [0u32; index::MOST_NAMES];
     let mut i = 0;
     while i < n {
         table[i] = words::name_id(words, i);
         i += 1;
     }
-    table
 }
 
 // ---- the rows
@@ -96,14 +95,7 @@ fn write_rows(
 
 // ---- the whole search
 
-// What all sizes came to, with the answers by place.
-struct Cover {
-    past: bool,
-    touches: usize,
-    answers: [u32; index::MOST_NAMES],
-}
-
-// The query's features sorted once, and all sizes.
+// The query's features sorted once, and all sizes. The answers, by place, come as 0.
 fn cover_sizes(
     query: &[u8],
     measure: u8,
@@ -112,17 +104,17 @@ fn cover_sizes(
     allowance: usize,
     words: &[u32],
     ids: &[u32],
-) -> Cover
-    requires { ⌜ Good (now words) × (now ids ≡ idsOf (now words)) × (judgeOf (now query) ≡ 0) × (goodMeasure measure ≡ true) ⌝ }
-    ensures { λ r. ⌜ Covered (now (words .entry)) measure p q (sortOf (featuresOf (now (query .entry)))) allowance (r .answers) (r .past) (r .touches) ⌝ }
+    answers: &mut [u32],
+) -> Spent
+    requires { ⌜ Good (now words) × (now ids ≡ idsOf (now words)) × (judgeOf (now query) ≡ 0) × (goodMeasure measure ≡ true) × (now answers ≡ replicate mostNames 0) ⌝ }
+    ensures { λ r. ⌜ Covered (now (words .entry)) measure p q (sortOf (featuresOf (now (query .entry)))) allowance (now (answers .exit)) (r .past) (r .touches) ⌝ }
 {
     let set = names::features(query);
     let x = set.len;
     let mut features = set.items;
     let mut spare = [0u64; FeatureSet::CAPACITY];
     sorting::sort(&mut features[..x], &mut spare[..x]);
-    let mut answers = [0u32; index::MOST_NAMES];
-    let spent = sizes::all_sizes(
+    sizes::all_sizes(
         words,
         ids,
         &features[..x],
@@ -130,13 +122,8 @@ fn cover_sizes(
         p,
         q,
         allowance,
-        &mut answers,
-    );
-    Cover {
-        past: spent.past,
-        touches: spent.touches,
         answers,
-    }
+    )
 }
 
 fn smaller(a: usize, b: usize) -> usize
@@ -161,16 +148,26 @@ fn run(
     ensures { λ r. ⌜ Searched (now (query .entry)) measure p q allowance (now (words .entry)) (asColumns (now (ids .entry)) (now (shared .entry)) (now (sizes .entry))) (asColumns (now (ids .exit)) (now (shared .exit)) (now (sizes .exit))) r ⌝ }
 {
     let n = words::name_count(words);
-    let table = name_ids(words);
-    let found = cover_sizes(query, measure, p, q, allowance as usize, words, &table[..n]);
-    if found.past {
+    let mut table = [0u32; index::MOST_NAMES];
+    name_ids(words, &mut table);
+    let mut answers = [0u32; index::MOST_NAMES];
+    let spent = cover_sizes(
+        query,
+        measure,
+        p,
+        q,
+        allowance as usize,
+        words,
+        &table[..n],
+        &mut answers,
+    );
+    if spent.past {
         return Answer::Refused {
             number: 7,
             touches: allowance,
         };
     }
-    let touches = found.touches as u32;
-    let answers = found.answers;
+    let touches = spent.touches as u32;
     let rows = count_answers(&answers, n);
     let room = smaller(ids.len(), smaller(shared.len(), sizes.len()));
     if room < rows {

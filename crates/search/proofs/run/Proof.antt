@@ -1,5 +1,5 @@
 -- `run` meets its contract: 7 where the sizes go past the allowance, 8 where the answers exceed the room, the rows otherwise.
-use mathlib.Core.Path.{_≡_, sym, ap, ap₂, _∙_}
+use mathlib.Core.Path.{_≡_, refl, sym, ap, ap₂, _∙_}
 use mathlib.Core.List.{List, _++_}
 use Prim.Native.Nat.{ℕ, _+_, _-_, _≤_, _<_, min}
 use native.Mathlib.Omega.{arith}
@@ -23,19 +23,25 @@ use Rattle.search.proofs.run.Tie as tie
 name-count-requires : tie.Need-name-count-requires
 name-count-requires c κs = good-three _ (c .before .before .before .before .before .pre .0)
 
+slice-aggregate-name-ids : tie.Need-slice-aggregate-name-ids
+slice-aggregate-name-ids c = search needs
+
 name-ids-requires : tie.Need-name-ids-requires
-name-ids-requires c κs = search needs
+name-ids-requires c κs =
+    let b = c .before .before .before .before .before .before .before in
+    let h = good-names-most (b .args .words .now) (b .pre .0) in
+    let n = length-replicate {A = ℕ} mostNames 0 in
+    (b .pre .0, omega arith)
 
 -- the table has room for the ids, and they stand in front
 pub record Ids (c : tie.After-name-ids) : Type 0 where
-  pub room : c .before .name-count .result ≤ length (c .name-ids .result)
-  pub front : take (c .before .name-count .result) (c .name-ids .result) ≡ idsOf (c .before .before .before .before .before .before .before .args .words .now)
+  pub room : c .before .before .name-count .result ≤ length (c .name-ids .last .1 .0)
+  pub front : take (c .before .before .name-count .result) (c .name-ids .last .1 .0) ≡ idsOf (c .before .before .before .before .before .before .before .before .args .words .now)
 
 ids : (c : tie.After-name-ids) → Ids c
 ids c =
-    let b = c .before .before .before .before .before .before .before in
-    let w = b .args .words .now in
-    let n = c .before .name-count .ensures .0 in
+    let w = c .before .before .before .before .before .before .before .before .args .words .now in
+    let n = c .before .before .name-count .ensures .0 in
     let l = length-ids w in
     let rest : List ℕ = drop (nameCount w) (replicate mostNames 0) in
     let m = ap length (c .name-ids .ensures) ∙ length-append (idsOf w) rest in
@@ -45,35 +51,38 @@ ids c =
     }
 
 array-share-prefix-table : tie.Need-array-share-prefix-table
-array-share-prefix-table c = ids c .room
+array-share-prefix-table c = ids (c .before) .room
 
 slice-aggregate-cover-sizes : tie.Need-slice-aggregate-cover-sizes
-slice-aggregate-cover-sizes c = sym (length-take-le (c .before .before .name-count .result) (c .before .name-ids .result) (ids (c .before) .room))
+slice-aggregate-cover-sizes c = sym (length-take-le (c .before .before .before .before .name-count .result) (c .before .before .name-ids .last .1 .0) (ids (c .before .before) .room))
+
+slice-aggregate-cover-sizes-2 : tie.Need-slice-aggregate-cover-sizes-2
+slice-aggregate-cover-sizes-2 c = search needs
 
 cover-sizes-requires : tie.Need-cover-sizes-requires
-cover-sizes-requires c κs = let b = c .before .before .before .before .before .before .before .before in (b .pre .0, ids (c .before) .front, b .pre .1, b .pre .2)
+cover-sizes-requires c κs = let b = c .before .before .before .before .before .before .before .before .before .before .before in (b .pre .0, ids (c .before .before .before) .front, b .pre .1, b .pre .2, refl)
 
 -- what all sizes came to
 runs : (c : tie.After-cover-sizes)
-    → let a = c .before .before .before .before .before .before .before .before .before .args in let v = c .cover-sizes .result in Runs (a .query .now) (a .measure) (a .p) (a .q) (a .allowance) (a .words .now) (v .answers) (v .past) (v .touches)
+    → let a = c .before .before .before .before .before .before .before .before .before .before .before .before .args in let v = c .cover-sizes .result in Runs (a .query .now) (a .measure) (a .p) (a .q) (a .allowance) (a .words .now) (c .cover-sizes .last .1 .1 .1 .1 .1 .1 .1 .0) (v .past) (v .touches)
 runs c =
-    let b = c .before .before .before .before .before .before .before .before .before in
+    let b = c .before .before .before .before .before .before .before .before .before .before .before .before in
     record {
       good = b .pre .0;
       judged = b .pre .1;
       known = b .pre .2;
       exact = b .pre .3;
-      bytes = λ j. (let z = c .before .before .before .before .before .before .before .before .shared-slice-known .given j in omega arith);
+      bytes = λ j. (let z = c .before .before .before .before .before .before .before .before .before .before .before .shared-slice-known .given j in omega arith);
       covered = c .cover-sizes .ensures;
     }
 
 returns : tie.Need-returns
-returns c = ran-past (runs (c .before)) (c .if1 .taken) _
+returns c = ran-past (runs (c .before .before)) (c .if1 .taken) _
 
 cast-touches : tie.Need-cast-touches
 cast-touches c =
-    let h = ran-enough (runs (c .before .before)) (c .before .if1 .left) in
-    let z = c .before .before .before .before .before .before .before .before .before .before .before .fits .allowance in
+    let h = ran-enough (runs (c .before .before .before)) (c .before .if1 .left) in
+    let z = c .before .before .before .before .before .before .before .before .before .before .before .before .before .before .before .fits .allowance in
     omega arith
 
 slice-aggregate-count-answers : tie.Need-slice-aggregate-count-answers
@@ -81,9 +90,9 @@ slice-aggregate-count-answers c = search needs
 
 count-answers-requires : tie.Need-count-answers-requires
 count-answers-requires c κs =
-    let h = ran-wide (runs (c .before .before .before .before)) (c .before .before .before .if1 .left) in
-    let g = good-names-most _ (c .before .before .before .before .before .before .before .before .before .before .before .before .before .pre .0) in
-    let e = c .before .before .before .before .before .before .before .name-count .ensures .0 in
+    let h = ran-wide (runs (c .before .before .before .before)) (c .before .before .if1 .left) in
+    let g = good-names-most _ (c .before .before .before .before .before .before .before .before .before .before .before .before .before .before .before .before .pre .0) in
+    let e = c .before .before .before .before .before .before .before .before .before .before .name-count .ensures .0 in
     omega arith
 
 smaller-requires : tie.Need-smaller-requires
@@ -94,10 +103,10 @@ smaller-requires-2 c κs = search needs
 
 -- how many answers there are, and how much room
 counted : (c : tie.After-smaller2)
-    → let a = c .before .before .before .before .before .before .before .before .before .before .before .before .before .before .before .before .args in (c .before .before .count-answers .result ≡ length (placesIn (c .before .before .before .before .before .before .before .cover-sizes .result .answers) (nameCount (a .words .now)))) × (c .smaller2 .result ≡ roomOf (asColumns (a .ids .now) (a .shared .now) (a .sizes .now)))
+    → let a = c .before .before .before .before .before .before .before .before .before .before .before .before .before .before .before .before .before .before .before .args in (c .before .before .count-answers .result ≡ length (placesIn (c .before .before .before .before .before .before .before .cover-sizes .last .1 .1 .1 .1 .1 .1 .1 .0) (nameCount (a .words .now)))) × (c .smaller2 .result ≡ roomOf (asColumns (a .ids .now) (a .shared .now) (a .sizes .now)))
 counted c =
-    let a = c .before .before .before .before .before .before .before .before .before .before .before .before .before .before .before .before .args in (
-      c .before .before .count-answers .ensures ∙ ap (λ (n : ℕ). length (placesIn (c .before .before .before .before .before .before .before .cover-sizes .result .answers) n)) (c .before .before .before .before .before .before .before .before .before .before .name-count .ensures .0),
+    let a = c .before .before .before .before .before .before .before .before .before .before .before .before .before .before .before .before .before .before .before .args in (
+      c .before .before .count-answers .ensures ∙ ap (λ (n : ℕ). length (placesIn (c .before .before .before .before .before .before .before .cover-sizes .last .1 .1 .1 .1 .1 .1 .1 .0) n)) (c .before .before .before .before .before .before .before .before .before .before .before .before .before .name-count .ensures .0),
       c .smaller2 .ensures ∙ ap (min (length (a .ids .now))) (c .before .smaller .ensures),
     )
 
@@ -107,18 +116,16 @@ returns-2 c =
     let n0 = n .0 in
     let n1 = n .1 in
     let h = c .if2 .taken in
-    ran-full (runs (c .before .before .before .before .before .before .before .before)) (c .before .before .before .before .before .before .before .if1 .left) _ (omega arith)
+    ran-full (runs (c .before .before .before .before .before .before .before .before)) (c .before .before .before .before .before .before .if1 .left) _ (omega arith)
 
 slice-aggregate-write-rows : tie.Need-slice-aggregate-write-rows
 slice-aggregate-write-rows c = search needs
 
 write-rows-requires : tie.Need-write-rows-requires
 write-rows-requires c κs =
-    let b = c .before .before .before .before .before .before .before .before .before .before .before .before .before .before .before .before .before .before .before .before .before in
-    let w = b .args .words .now in
-    let v = c .before .before .before .before .before .before .before .before .before .before .before .before in
-    let wide = ran-wide (runs v) (c .before .before .before .before .before .before .before .before .before .before .before .if1 .left) in
-    let few = good-names-most w (b .pre .0) in
+    let b = c .before .before .before .before .before .before .before .before .before .before .before .before .before .before .before .before .before .before .before .before .before .before .before .before in
+    let wide = ran-wide (runs (c .before .before .before .before .before .before .before .before .before .before .before .before)) (c .before .before .before .before .before .before .before .before .before .before .if1 .left) in
+    let few = good-names-most (b .args .words .now) (b .pre .0) in
     let n = counted (c .before .before .before .before .before) in
     let n0 = n .0 in
     let n1 = n .1 in
@@ -128,11 +135,13 @@ write-rows-requires c κs =
 lowest-requires : tie.Need-lowest-requires
 lowest-requires c κs = search needs
 
-cast-t37 : tie.Need-cast-t37
-cast-t37 c =
-    let z = counted (c .before .before .before .before .before .before .before .before .before .before .before .before .before) .0 in
-    let g = good-names-most _ (c .before .before .before .before .before .before .before .before .before .before .before .before .before .before .before .before .before .before .before .before .before .before .before .before .before .before .before .before .before .pre .0) in
-    let y = places-most (c .before .before .before .before .before .before .before .before .before .before .before .before .before .before .before .before .before .before .before .before .cover-sizes .result .answers) (nameCount (c .before .before .before .before .before .before .before .before .before .before .before .before .before .before .before .before .before .before .before .before .before .before .before .before .before .before .before .before .before .args .words .now)) in
+cast-t40 : tie.Need-cast-t40
+cast-t40 c =
+    let s = c .before .before .before .before .before .before .before .before .before .before .before .before .before in
+    let b = c .before .before .before .before .before .before .before .before .before .before .before .before .before .before .before .before .before .before .before .before .before .before .before .before .before .before .before .before .before .before .before .before in
+    let z = counted s .0 in
+    let g = good-names-most _ (b .pre .0) in
+    let y = places-most (c .before .before .before .before .before .before .before .before .before .before .before .before .before .before .before .before .before .before .before .before .cover-sizes .last .1 .1 .1 .1 .1 .1 .1 .0) (nameCount (b .args .words .now)) in
     omega arith
 
 same-length : tie.Need-same-length
@@ -146,17 +155,19 @@ same-length-3 c = search needs
 
 returns-3 : tie.Need-returns-3
 returns-3 c =
-    let n = counted (c .before .before .before .before .before .before .before .before .before .before .before .before .before) in
+    let s = c .before .before .before .before .before .before .before .before .before .before .before .before .before in
+    let n = counted s in
     let n0 = n .0 in
     let n1 = n .1 in
     let h = c .before .before .before .before .before .before .before .before .before .before .before .before .if2 .left in
     let wr = c .before .before .before .before .before .before .before .write-rows .ensures in
     let v = c .before .before .before .before .before .before .before .before .before .before .before .before .before .before .before .before .before .before .before .before in
-    let a = c .before .before .before .before .before .before .before .before .before .before .before .before .before .before .before .before .before .before .before .before .before .before .before .before .before .before .before .before .before .args in
+    let a = v .before .before .before .before .before .before .before .before .before .before .before .before .args in
     let lent = asColumns (a .ids .now) (a .shared .now) (a .sizes .now) in
-    let f = ran-found (runs v) (c .before .before .before .before .before .before .before .before .before .before .before .before .before .before .before .before .before .before .before .if1 .left) lent _ (c .before .before .before .before .before .before .before .before .before .before .before .before .before .before .before .count-answers .result) n0 (omega arith) (λ t. asColumns (wr .0 t) (wr .1 .0 t) (wr .1 .1 t)) in
+    let rows = c .before .before .before .before .before .before .before .before .before .before .before .before .before .before .before .count-answers .result in
+    let f = ran-found (runs v) (c .before .before .before .before .before .before .before .before .before .before .before .before .before .before .before .before .before .before .if1 .left) lent _ rows n0 (omega arith) (λ t. asColumns (wr .0 t) (wr .1 .0 t) (wr .1 .1 t)) in
     record {
-      answer = ap (λ (t : Threshold). Found (c .before .before .before .before .before .before .before .before .before .before .before .before .before .before .before .count-answers .result) (v .cover-sizes .result .touches) (t .p) (t .q)) (c .lowest .ensures) ∙ f .answer;
+      answer = ap (λ (t : Threshold). Found rows (v .cover-sizes .result .touches) (t .p) (t .q)) (c .lowest .ensures) ∙ f .answer;
       columns = f .columns;
     }
 
@@ -165,9 +176,11 @@ run-spec =
     tie.close
     (tie.spec
     name-count-requires
+    slice-aggregate-name-ids
     name-ids-requires
     array-share-prefix-table
     slice-aggregate-cover-sizes
+    slice-aggregate-cover-sizes-2
     cover-sizes-requires
     returns
     cast-touches
@@ -179,7 +192,7 @@ run-spec =
     slice-aggregate-write-rows
     write-rows-requires
     lowest-requires
-    cast-t37
+    cast-t40
     same-length
     same-length-2
     same-length-3
