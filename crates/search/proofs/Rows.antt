@@ -2,6 +2,7 @@
 -- Assumes nothing.
 use mathlib.Core.Path.{_≡_, refl, sym, ap, ap₂, _∙_}
 use mathlib.Core.Bool.{Bool, true, false, cond}
+use mathlib.Core.Logic.{⊎-elim}
 use mathlib.Core.List.{List, [], _∷_, _++_, map, append-nil}
 use Prim.Native.Nat.{ℕ, zero, suc, _+_, _≤_, _<_}
 use native.Mathlib.Numerals.{add-one}
@@ -10,6 +11,7 @@ use lib.ListN.{length, getD, drop, set, length-append, length-drop, length-map}
 use lib.Seq.{drop-cons, set-at, append-snoc}
 use lib.Dec.{leb}
 use borrow.Author.Tests.{le-leb, lt-leb}
+use Rattle.laws.proofs.Order.{le-or-lt}
 use Rattle.search.specs.Places.{placesIn}
 use Rattle.search.specs.Answers.{over}
 
@@ -34,6 +36,33 @@ places-up a k (suc d) =
     let r = places-up a k d in
     let s = length-append (placesIn a (k + d)) (cond (leb 1 (getD a (k + d) 0)) ((k + d) ∷ []) []) in
     omega arith
+
+-- where they are no more, they are the same
+pub places-all : (a : List ℕ) (k d : ℕ) → length (placesIn a (k + d)) ≤ length (placesIn a k) → placesIn a (k + d) ≡ placesIn a k
+places-all a k zero h = ap (placesIn a) (let q : k + 0 ≡ k = omega arith in q)
+places-all a k (suc d) h = e ∙ by-test (leb 1 (getD a (k + d) 0)) refl (places-all a k d)
+  where
+    e : placesIn a (k + suc d) ≡ placesIn a (k + d) ++ cond (leb 1 (getD a (k + d) 0)) ((k + d) ∷ []) []
+    e = unfold placesIn in (ap (placesIn a) (let q : k + suc d ≡ suc (k + d) = omega arith in q))
+
+    by-test : (b : Bool) → leb 1 (getD a (k + d) 0) ≡ b → (length (placesIn a (k + d)) ≤ length (placesIn a k) → placesIn a (k + d) ≡ placesIn a k)
+        → placesIn a (k + d) ++ cond b ((k + d) ∷ []) [] ≡ placesIn a k
+    by-test true t rest =
+        let m = ap length (e ∙ ap (λ (b : Bool). placesIn a (k + d) ++ cond b ((k + d) ∷ []) []) t) in
+        let s = length-append (placesIn a (k + d)) ((k + d) ∷ []) in
+        let u = places-up a k d in
+        absurd (omega arith)
+    by-test false t rest =
+        let m = ap length (e ∙ ap (λ (b : Bool). placesIn a (k + d) ++ cond b ((k + d) ∷ []) []) t ∙ append-nil (placesIn a (k + d))) in
+        append-nil (placesIn a (k + d)) ∙ rest (omega arith)
+
+-- where there are fewer, there are names yet to come
+pub places-before : (a : List ℕ) (i n : ℕ) → i ≤ n → length (placesIn a i) < length (placesIn a n) → i < n
+places-before a i n h m =
+    ⊎-elim
+    (λ (k : n ≤ i). let e = ap (λ (j : ℕ). length (placesIn a j)) (let q : i ≡ n = omega arith in q) in absurd (omega arith))
+    (λ (k : i < n). k)
+    (le-or-lt n i)
 
 map-snoc : (f : ℕ → ℕ) (l : List ℕ) (x : ℕ) → map f (l ++ (x ∷ [])) ≡ map f l ++ (f x ∷ [])
 map-snoc f [] x = refl

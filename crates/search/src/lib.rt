@@ -64,23 +64,23 @@ fn count_answers(answers: &[u32], n: usize) -> usize
     rows
 }
 
-// Writes a row for each answer, in the names' order.
+// Writes a row for each answer, in the names' order, as far as the last of `rows` answers.
 fn write_rows(
     words: &[u32],
     answers: &[u32],
+    rows: usize,
     ids: &mut [u32],
     shared: &mut [u32],
     sizes: &mut [u32],
 )
-    requires { ⌜ Good (now words) × (nameCount (now words) ≤ length (now answers)) × (length (placesIn (now answers) (nameCount (now words))) ≤ length (now ids)) × (length (placesIn (now answers) (nameCount (now words))) ≤ length (now shared)) × (length (placesIn (now answers) (nameCount (now words))) ≤ length (now sizes)) ⌝ }
+    requires { ⌜ Good (now words) × (nameCount (now words) ≤ length (now answers)) × (rows ≡ length (placesIn (now answers) (nameCount (now words)))) × (rows ≤ length (now ids)) × (rows ≤ length (now shared)) × (rows ≤ length (now sizes)) ⌝ }
     ensures { λ _. ⌜ now (ids .exit) ≡ over (map (nameId (now (words .entry))) (placesIn (now (answers .entry)) (nameCount (now (words .entry))))) (now (ids .entry)) ⌝ }
     ensures { λ _. ⌜ now (shared .exit) ≡ over (map (λ (i : ℕ). getD (now (answers .entry)) i 0) (placesIn (now (answers .entry)) (nameCount (now (words .entry))))) (now (shared .entry)) ⌝ }
     ensures { λ _. ⌜ now (sizes .exit) ≡ over (map (nameSize (now (words .entry))) (placesIn (now (answers .entry)) (nameCount (now (words .entry))))) (now (sizes .entry)) ⌝ }
 {
-    let n = words::name_count(words);
     let mut k = 0;
     let mut i = 0;
-    while i < n {
+    while k < rows {
         let count = answers[i];
         let at = i;
         i += 1;
@@ -173,7 +173,7 @@ fn run(
     if room < rows {
         return Answer::Refused { number: 8, touches };
     }
-    write_rows(words, &answers, ids, shared, sizes);
+    write_rows(words, &answers, rows, ids, shared, sizes);
     let t = likeness::lowest(p, q);
     Answer::Found {
         rows: rows as u32,

@@ -130,7 +130,7 @@ write-rows-requires c κs =
     let n0 = n .0 in
     let n1 = n .1 in
     let h = c .before .before .before .before .if2 .left in
-    (b .pre .0, omega arith, omega arith, omega arith, omega arith)
+    (b .pre .0, omega arith, n0, omega arith, omega arith, omega arith)
 
 lowest-requires : tie.Need-lowest-requires
 lowest-requires c κs = search needs
