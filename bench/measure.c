@@ -427,21 +427,23 @@ static void take_times(struct scene *s, double *seconds, unsigned rounds)
 static struct {
     const char *what;
     int over, under;
-    const char *rows; /* how the labels of the rows begin that count */
     double goal, worst;
     char at[64];
 } goals[] = {
-    { "search_good / SimString", GOOD, SIM, "", 1.0, 0, "" },
-    { "search_good / twin", GOOD, TWIN_GOOD, "", 1.1, 0, "" },
-    { "search / twin's check and search", SEARCH, TWIN_SEARCH, "", 1.2, 0, "" },
-    { "build / sort_unstable, pool names", BUILD, SORT, "256 pool names", 3.0, 0, "" },
+    { "search_good / SimString", GOOD, SIM, 0.7, 0, "" },
+    { "search_good / twin", GOOD, TWIN_GOOD, 1.1, 0, "" },
+    { "search / twin's check and search", SEARCH, TWIN_SEARCH, 1.2, 0, "" },
+    { "build / sort_unstable", BUILD, SORT, 3.0, 0, "" },
 };
+
+/* How the labels of the rows begin that the goals are for. */
+static const char goal_rows[] = "256 pool names";
 
 static void note(const struct scene *s, const double *seconds)
 {
     for (size_t g = 0; g < sizeof goals / sizeof *goals; g++) {
         double ratio = seconds[goals[g].over] / seconds[goals[g].under];
-        if ((goals[g].under == SIM && !s->simstring) || strncmp(s->label, goals[g].rows, strlen(goals[g].rows)) != 0)
+        if ((goals[g].under == SIM && !s->simstring) || strncmp(s->label, goal_rows, strlen(goal_rows)) != 0)
             continue;
         if (ratio > goals[g].worst) {
             goals[g].worst = ratio;
@@ -573,7 +575,7 @@ int main(int count, char **given)
     for (size_t names = 16; names <= 256; names *= 4)
         for (size_t length = 8; length <= 64; length = length == 16 ? 64 : 2 * length)
             grown(names, length, rounds);
-    puts("\nThe goals, by the largest ratio of all rows above, the build's of the rows of pool names:\n");
+    puts("\nThe goals, by the largest ratio of the rows of 256 pool names:\n");
     puts("| ratio | goal | largest | at | |\n|---|---|---|---|---|");
     for (size_t g = 0; g < sizeof goals / sizeof *goals; g++)
         if (goals[g].worst == 0)
