@@ -156,7 +156,7 @@ module _ (s : List ℕ) (m p q allowance : ℕ) (w : List ℕ) (before after : C
   shown-left n =
       let c = rows n in
       let fits = facts n .fits in
-      let good = facts n .asked .good in
+      let good = facts n .admitted .good in
       record {
         few = unfold places in omega arith;
         in-ids = long (nameId w) (before .ids) n;

@@ -85,7 +85,7 @@ reads-end w line f z =
     let k = answered (queryIn line) (measureIn line) (pIn line) (qIn line) (allowanceIn line) w rowsLent z in
     let few = k .fits in
     let enough = k .enough in
-    let g = threshold-facts (lowestTerms (pIn line) (qIn line) .p) (lowestTerms (pIn line) (qIn line) .q) (lowest-good (pIn line) (qIn line) (k .asked .exact)) in
+    let g = threshold-facts (lowestTerms (pIn line) (qIn line) .p) (lowestTerms (pIn line) (qIn line) .q) (lowest-good (pIn line) (qIn line) (k .admitted .exact)) in
     let g1 = g .1 in
     let g2 = g .2 in
     (k .form, read-write-end _ _ _ _ (omega arith) (omega arith) (omega arith) (omega arith))

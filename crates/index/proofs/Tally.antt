@@ -53,11 +53,11 @@ named-missing w y id l =
     omega arith)
 
 -- how many of the first r lists hold the name at i
-abbrev pub heldBy : List ℕ → ℕ → ℕ → ℕ
-heldBy w r i = countBelow r (λ (s : ℕ). member (nameId w i) (listAt w s))
+abbrev pub rowsHolding : List ℕ → ℕ → ℕ → ℕ
+rowsHolding w r i = countBelow r (λ (s : ℕ). member (nameId w i) (listAt w s))
 
-held-most : (w : List ℕ) (r i : ℕ) → heldBy w r i ≤ r
-held-most w r i =
+holding-most : (w : List ℕ) (r i : ℕ) → rowsHolding w r i ≤ r
+holding-most w r i =
     let a = sum-below-most r 1 (λ (s : ℕ). cond (member (nameId w i) (listAt w s)) 1 0) (λ s l. at-most (member (nameId w i) (listAt w s))) in
     let b = mul-one r in
     omega arith
@@ -86,7 +86,7 @@ module _ (w : List ℕ) (r : ℕ) where
     pub within : k ≤ rowLength w r
     pub next : allBelow (k - 1) nextAt ≡ true
     pub named : allBelow k namedAt ≡ true
-    pub counts : (i : ℕ) → i < nameCount w → getD tally i 0 ≡ heldBy w r i + cond (member (nameId w i) (take k (listAt w r))) 1 0
+    pub counts : (i : ℕ) → i < nameCount w → getD tally i 0 ≡ rowsHolding w r i + cond (member (nameId w i) (take k (listAt w r))) 1 0
 
   pub list-start : (tally : List ℕ) → Tallied w r tally → ListTo 0 tally
   unfolding Tallied member
@@ -153,17 +153,17 @@ module _ (w : List ℕ) (good : Checked w) (r : ℕ) (row : r < rowCount w) wher
           let v = named-found w (rowSize w r) (idAt w r k) (subst (λ (i : ℕ). i < nameCount w) found name) in
           (v .0, ap (nameId w) found ∙ v .1)
 
-      at-before : getD tally at 0 ≡ heldBy w r at
+      at-before : getD tally at 0 ≡ rowsHolding w r at
       at-before =
           let e = sofar .counts at name in
           let f : member (nameId w at) (take k (listAt w r)) ≡ false = ap (λ (x : ℕ). member x (take k (listAt w r))) (at-name .1) ∙ fresh in
-          let g : heldBy w r at + cond (member (nameId w at) (take k (listAt w r))) 1 0 ≡ heldBy w r at + 0 =
-          ap (λ (b : Bool). heldBy w r at + cond b 1 0) f in
+          let g : rowsHolding w r at + cond (member (nameId w at) (take k (listAt w r))) 1 0 ≡ rowsHolding w r at + 0 =
+          ap (λ (b : Bool). rowsHolding w r at + cond b 1 0) f in
           omega arith
 
       -- the number there is at most the rows looked at
       pub tally-most : getD tally at 0 ≤ r
-      tally-most = let e = at-before in let h = held-most w r at in omega arith
+      tally-most = let e = at-before in let h = holding-most w r at in omega arith
 
       member-more : (x : ℕ) → member x (take (k + 1) (listAt w r)) ≡ member x (take k (listAt w r)) || (eqb x (idAt w r k) || false)
       unfolding member
@@ -181,28 +181,28 @@ module _ (w : List ℕ) (good : Checked w) (r : ℕ) (row : r < rowCount w) wher
           ids : (i j : ℕ) → i < j → j < nameCount w → nameId w i < nameId w j
           ids = rises (nameCount w) (nameId w) (names-facts w (good .named .names) .next)
 
-          same : getD (set tally at (getD tally at 0 + 1)) at 0 ≡ heldBy w r at + cond (member (nameId w at) (take (k + 1) (listAt w r))) 1 0
+          same : getD (set tally at (getD tally at 0 + 1)) at 0 ≡ rowsHolding w r at + cond (member (nameId w at) (take (k + 1) (listAt w r))) 1 0
           same =
               let long′ : at < length tally = omega arith in
               let a = getD-set-same tally at (getD tally at 0 + 1) 0 long′ in
               let b = at-before in
               let m : member (nameId w at) (take (k + 1) (listAt w r)) ≡ true =
               member-more (nameId w at) ∙ rw (eq-eqb (nameId w at) (idAt w r k) (at-name .1)) (or-true (member (nameId w at) (take k (listAt w r)))) in
-              let c : heldBy w r at + cond (member (nameId w at) (take (k + 1) (listAt w r))) 1 0 ≡ heldBy w r at + 1 =
-              ap (λ (b : Bool). heldBy w r at + cond b 1 0) m in
+              let c : rowsHolding w r at + cond (member (nameId w at) (take (k + 1) (listAt w r))) 1 0 ≡ rowsHolding w r at + 1 =
+              ap (λ (b : Bool). rowsHolding w r at + cond b 1 0) m in
               omega arith
 
-          other : (i : ℕ) → i < nameCount w → (i ≡ at → ⊥) → getD (set tally at (getD tally at 0 + 1)) i 0 ≡ heldBy w r i + cond (member (nameId w i) (take (k + 1) (listAt w r))) 1 0
+          other : (i : ℕ) → i < nameCount w → (i ≡ at → ⊥) → getD (set tally at (getD tally at 0 + 1)) i 0 ≡ rowsHolding w r i + cond (member (nameId w i) (take (k + 1) (listAt w r))) 1 0
           other i l n =
               let apart : nameId w i ≡ idAt w r k → ⊥ = λ e. n (rises-apart (nameCount w) (nameId w) ids i at l name (e ∙ sym (at-name .1))) in
               let m : member (nameId w i) (take (k + 1) (listAt w r)) ≡ member (nameId w i) (take k (listAt w r)) =
               member-more (nameId w i) ∙ rw (ne-eqb (nameId w i) (idAt w r k) apart) (or-false (member (nameId w i) (take k (listAt w r)))) in
               getD-set-other tally at i (getD tally at 0 + 1) 0 n
               ∙ sofar .counts i l
-              ∙ ap (λ (b : Bool). heldBy w r i + cond b 1 0) (sym m)
+              ∙ ap (λ (b : Bool). rowsHolding w r i + cond b 1 0) (sym m)
 
-          counts : (i : ℕ) → i < nameCount w → getD (set tally at (getD tally at 0 + 1)) i 0 ≡ heldBy w r i + cond (member (nameId w i) (take (k + 1) (listAt w r))) 1 0
-          counts i l = ⊎-elim (λ (e : i ≡ at). subst (λ (j : ℕ). getD (set tally at (getD tally at 0 + 1)) j 0 ≡ heldBy w r j + cond (member (nameId w j) (take (k + 1) (listAt w r))) 1 0) (sym e) same) (λ (n : i ≡ at → ⊥). other i l n) (eq-or-ne i at)
+          counts : (i : ℕ) → i < nameCount w → getD (set tally at (getD tally at 0 + 1)) i 0 ≡ rowsHolding w r i + cond (member (nameId w i) (take (k + 1) (listAt w r))) 1 0
+          counts i l = ⊎-elim (λ (e : i ≡ at). subst (λ (j : ℕ). getD (set tally at (getD tally at 0 + 1)) j 0 ≡ rowsHolding w r j + cond (member (nameId w j) (take (k + 1) (listAt w r))) 1 0) (sym e) same) (λ (n : i ≡ at → ⊥). other i l n) (eq-or-ne i at)
 
   pub list-whole : (k : ℕ) (tally : List ℕ) → ListTo w r k tally → rowLength w r ≤ k → (listGood w r ≡ true) × Tallied w (r + 1) tally
   unfolding listGood Tallied
@@ -214,7 +214,7 @@ module _ (w : List ℕ) (good : Checked w) (r : ℕ) (row : r < rowCount w) wher
         and-both _ _ (ap (λ (m : ℕ). allBelow (m - 1) (nextAt w r)) (sym e) ∙ s .next) (ap (λ (m : ℕ). allBelow m (namedAt w r)) (sym e) ∙ s .named),
         λ i l.
             s .counts i l
-            ∙ ap (λ (x : List ℕ). heldBy w r i + cond (member (nameId w i) x) 1 0) t
+            ∙ ap (λ (x : List ℕ). rowsHolding w r i + cond (member (nameId w i) x) 1 0) t
             ∙ sym (sum-below-step (λ (s : ℕ). cond (member (nameId w i) (listAt w s)) 1 0) r),
       )
 
@@ -242,7 +242,7 @@ pub lists-last : (w tally : List ℕ) → allBelow (rowCount w) (listGood w) ≡
 unfolding listsGood listsWith Tallied
 lists-last w tally e t =
     rw e
-    (all-ext (nameCount w) (λ (i : ℕ). eqb (getD tally i 0) (nameSize w i)) (λ (i : ℕ). eqb (heldBy w (rowCount w) i) (nameSize w i))
+    (all-ext (nameCount w) (λ (i : ℕ). eqb (getD tally i 0) (nameSize w i)) (λ (i : ℕ). eqb (rowsHolding w (rowCount w) i) (nameSize w i))
     (λ i l. ap (λ (n : ℕ). eqb n (nameSize w i)) (t i l)))
 
 -- ---- good, part by part

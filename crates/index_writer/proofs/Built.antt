@@ -33,11 +33,11 @@ use Rattle.index_writer.specs.Contents.{namesIn, rowIn, rowsIn, entryIn,
 use Rattle.index_writer.specs.Plain.{NameOf, Plain}
 use Rattle.index.proofs.Facts.{Before, row-before}
 use Rattle.index.proofs.Laws.{good-ids-apart}
-use Rattle.lists.proofs.Laws.{features-member}
+use Rattle.lists.proofs.Laws.{features-member, features-ascending}
 use Rattle.index_writer.proofs.Plain.{plain-good}
 use Rattle.index_writer.proofs.Read.{read-name-count, read-row-count, read-posting-count, read-name, read-size, read-feature, read-place, read-length, read-list, read-total, read-sum, read-narrow, read-names, read-rows}
 use Rattle.index_writer.proofs.Runs.{length-runs, triples-runs, triples-place, triples-member, runs-fit, count-triples}
-use Rattle.index_writer.proofs.Holders.{listed-row, row-list, features-ascending}
+use Rattle.index_writer.proofs.Holders.{listed-row, row-list}
 use Rattle.index_writer.proofs.Entries.{entries-place, entries-member, length-entries, distinct-entries, count-entries}
 
 -- ---- the rows of names within the limits

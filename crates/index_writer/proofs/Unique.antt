@@ -21,11 +21,11 @@ use Rattle.lists.specs.Lists.{featuresIn}
 use Rattle.index_writer.specs.Built.{Entry, noEntry, wordOf, idSpan, tripleOf, allTriples, Row, noRow, triplesFrom, runsOf, wordsFrom, rowsOf, wordsOf, EntryFit, Fit}
 use Rattle.index_writer.specs.Contents.{namesIn, rowIn, rowsIn, entryIn, entriesIn, Narrow}
 use Rattle.index_writer.specs.Plain.{Plain}
-use Rattle.lists.proofs.Laws.{holder-size, features-length}
+use Rattle.lists.proofs.Laws.{holder-size, features-length, features-row, row-features, features-ascending}
 use Rattle.index_writer.proofs.Plain.{good-plain}
 use Rattle.index_writer.proofs.Read.{words-in}
 use Rattle.index_writer.proofs.Runs.{runs-unique, triples-place, triples-member, triples-ascending}
-use Rattle.index_writer.proofs.Holders.{features-row, row-features, features-ascending, rows-fit}
+use Rattle.index_writer.proofs.Holders.{rows-fit}
 use Rattle.index_writer.proofs.Entries.{entries-place, entries-member, distinct-entries}
 use Rattle.index_writer.proofs.Built.{fit-at, built-name-count, built-id, built-features, built-good, built-narrow, built-words, built-names-in}
 

@@ -15,3 +15,4 @@ pub mod Sums
 pub mod Hits
 pub mod Cases
 pub mod Parts
+pub mod Passing

@@ -1,32 +1,33 @@
 -- Laws of the lists of a good index that the layers above cite: the row of a size and a feature, its list, and what a name stands for.
 -- Assumes nothing.
 use mathlib.Core.Path.{_≡_, refl, sym, ap, subst, _∙_}
-use mathlib.Core.Logic.{⊎-elim}
-use mathlib.Core.Bool.{Bool, true, false, cond, _||_, false≢true, or-true}
-use mathlib.Core.List.{List, [], _∷_, _++_, append-nil}
-use Prim.Native.Nat.{ℕ, zero, suc, _+_, _≤_, _<_}
-use native.Mathlib.Nat.{eq-or-lt-of-le}
+use mathlib.Core.Logic.{inl, inr, ⊎-elim}
+use mathlib.Core.Bool.{Bool, true, false, cond, false≢true}
+use mathlib.Core.List.{List, []}
+use Prim.Native.Nat.{ℕ, _≤_, _<_}
 use native.Mathlib.Omega.{arith}
-use lib.ListN.{length, length-append}
+use lib.ListN.{length, length-map}
 use lib.Dec.{ltb, eqb}
 use borrow.Author.Tests.{lt-ltb, le-ltb, eq-eqb, eqb-true}
 use Rattle.laws.specs.Lists.{member, Distinct, Ascending, countOf}
-use Rattle.laws.specs.Below.{sumBelow, countBelow}
+use Rattle.laws.specs.Below.{countBelow, passingBelow}
 use Rattle.laws.specs.First.{firstFrom}
-use Rattle.laws.proofs.Lists.{member-append, distinct-nil, distinct-snoc, count-ext, eqb-same}
+use Rattle.laws.proofs.Lists.{count-ext}
 use Rattle.laws.proofs.Below.{and-both, and-left, and-right, sum-below-le}
+use Rattle.laws.proofs.Passing.{length-passing, member-passing, image-passing, ascending-passing}
+use Rattle.laws.proofs.Members.{member-map}
 use Rattle.laws.proofs.FirstFound.{first-found, first-is}
 use Rattle.laws.proofs.Order.{le-or-lt}
-use Rattle.laws.proofs.Tests.{same-test, test-fails}
+use Rattle.laws.proofs.Tests.{same-test}
 use Rattle.laws.proofs.Sort.{ascending-distinct}
 use Rattle.laws.proofs.Hits.{count-hits}
 use Rattle.names.specs.Shared.{sharedOf}
 use Rattle.names.proofs.Shared.{shared-le-right}
 use Rattle.words.specs.Words.{nameCount, rowCount, nameId, nameSize, rowSize, rowFeature, rowLength, listAt}
 use Rattle.index.specs.Good.{listsWith, Good}
-use Rattle.index.proofs.Facts.{before-apart, good-facts}
+use Rattle.index.proofs.Facts.{Before, before-apart, good-facts}
 use Rattle.index.proofs.Laws.{good-ids-apart, row-ascending, row-named}
-use Rattle.lists.specs.Lists.{rowIs, rowFor, spanAt, spanIn, listIn, featuresAmong, featuresIn}
+use Rattle.lists.specs.Lists.{rowIs, rowFor, spanAt, spanIn, listIn, featuresIn}
 use Rattle.lists.specs.Part.{none, cut}
 
 -- ---- the rows
@@ -127,53 +128,17 @@ good-list-most w g y f =
 
 -- ---- what a name stands for
 
--- the rows that hold the id, counted, and which features they have
-among-length : (w : List ℕ) (id k : ℕ) → length (featuresAmong w id k) ≡ countBelow k (λ (r : ℕ). member id (listAt w r))
-unfolding featuresAmong sumBelow
-among-length w id zero = refl
-among-length w id (suc k) = by-test (member id (listAt w k)) (among-length w id k)
-  where
-    by-test : (b : Bool) → length (featuresAmong w id k) ≡ countBelow k (λ (r : ℕ). member id (listAt w r))
-        → length (featuresAmong w id k ++ cond b (rowFeature w k ∷ []) []) ≡ countBelow k (λ (r : ℕ). member id (listAt w r)) + cond b 1 0
-    by-test true h = let a = length-append (featuresAmong w id k) (rowFeature w k ∷ []) in omega arith
-    by-test false h = let a = length-append (featuresAmong w id k) [] in omega arith
+-- a feature that an id stands for is that of a row that lists the id
+pub features-row : (w : List ℕ) (id f : ℕ) → member f (featuresIn w id) ≡ true
+    → (r : ℕ) × (r < rowCount w) × (member id (listAt w r) ≡ true) × (rowFeature w r ≡ f)
+unfolding featuresIn
+features-row w id f m = image-passing (λ (r : ℕ). member id (listAt w r)) (rowFeature w) (rowCount w) f m
 
-pub among-at : (w : List ℕ) (id k f : ℕ) → member f (featuresAmong w id k) ≡ true
-    → (r : ℕ) × (r < k) × (member id (listAt w r) ≡ true) × (rowFeature w r ≡ f)
-unfolding featuresAmong member
-among-at w id zero f e = absurd (false≢true e)
-among-at w id (suc k) f e = by-test (member id (listAt w k)) refl e (among-at w id k f)
-  where
-    Found : ℕ → Type 0
-    Found n = (r : ℕ) × (r < n) × (member id (listAt w r) ≡ true) × (rowFeature w r ≡ f)
-
-    later : Found k → Found (suc k)
-    later v = let l = v .1 in (v .0, omega arith, v .2, v .3)
-
-    by-test : (b : Bool) → member id (listAt w k) ≡ b → member f (featuresAmong w id k ++ cond b (rowFeature w k ∷ []) []) ≡ true
-        → (member f (featuresAmong w id k) ≡ true → Found k) → Found (suc k)
-    by-test true q m h = by-member (member f (featuresAmong w id k)) refl (sym (member-append f (featuresAmong w id k) (rowFeature w k ∷ [])) ∙ m)
-      where
-        by-member : (d : Bool) → member f (featuresAmong w id k) ≡ d → d || (eqb f (rowFeature w k) || false) ≡ true → Found (suc k)
-        by-member true a o = later (h a)
-        by-member false a o = (k, omega arith, q, sym (eqb-true f (rowFeature w k) (or-end (eqb f (rowFeature w k)) o)))
-          where
-            or-end : (c : Bool) → c || false ≡ true → c ≡ true
-            or-end true z = refl
-            or-end false z = z
-    by-test false q m h = later (h (ap (member f) (sym (append-nil (featuresAmong w id k))) ∙ m))
-
-pub among-of : (w : List ℕ) (id k r : ℕ) → r < k → member id (listAt w r) ≡ true → member (rowFeature w r) (featuresAmong w id k) ≡ true
-unfolding featuresAmong member
-among-of w id zero r l m = absurd (omega arith)
-among-of w id (suc k) r l m =
-    let n : r ≤ k = omega arith in
-    let h : r < k → member (rowFeature w r) (featuresAmong w id k) ≡ true = λ p. among-of w id k r p m in
-    member-append (rowFeature w r) (featuresAmong w id k) (cond (member id (listAt w k)) (rowFeature w k ∷ []) [])
-    ∙ ⊎-elim
-    (λ (p : r ≡ k). rw (p, subst (λ (s : ℕ). member id (listAt w s) ≡ true) p m, eqb-same) (or-true (member (rowFeature w k) (featuresAmong w id k))))
-    (λ (p : r < k). rw (h p))
-    (eq-or-lt-of-le n)
+pub row-features : (w : List ℕ) (id r : ℕ) → r < rowCount w → member id (listAt w r) ≡ true → member (rowFeature w r) (featuresIn w id) ≡ true
+unfolding featuresIn
+row-features w id r l m =
+    let t : ℕ → Bool = λ (s : ℕ). member id (listAt w s) in
+    member-map (rowFeature w) r (passingBelow (rowCount w) t) (member-passing t (rowCount w) r l m)
 
 module _ (w : List ℕ) (g : Good w) (i : ℕ) (name : i < nameCount w) where
   -- a row that holds the name has the name's size
@@ -185,46 +150,50 @@ module _ (w : List ℕ) (g : Good w) (i : ℕ) (name : i < nameCount w) where
   -- the features whose lists hold it are as many as its size
   pub features-length : length (featuresIn w (nameId w i)) ≡ nameSize w i
   unfolding featuresIn listsWith
-  features-length = among-length w (nameId w i) (rowCount w) ∙ good-facts w g .lists .counts i name
-
-  among-distinct : (k : ℕ) → k ≤ rowCount w → Distinct (featuresAmong w (nameId w i) k)
-  unfolding featuresAmong
-  among-distinct zero l = distinct-nil
-  among-distinct (suc k) l = by-test (member (nameId w i) (listAt w k)) refl (among-distinct k (omega arith))
-    where
-      earlier : List ℕ
-      earlier = featuresAmong w (nameId w i) k
-
-      fresh : member (nameId w i) (listAt w k) ≡ true → member (rowFeature w k) earlier ≡ true → ⊥
-      fresh q m =
-          let v = among-at w (nameId w i) k (rowFeature w k) m in
-          let o = v .1 in
-          let p = holder-size (v .0) (omega arith) (v .2) in
-          let r = holder-size k (omega arith) q in
-          before-apart w (v .0) k (good-facts w g .rows .before (v .0) k (v .1) (omega arith)) (p ∙ sym r) (v .3)
-
-      by-test : (b : Bool) → member (nameId w i) (listAt w k) ≡ b → Distinct earlier → Distinct (earlier ++ cond b (rowFeature w k ∷ []) [])
-      by-test true q d = distinct-snoc earlier (rowFeature w k) d (test-fails (member (rowFeature w k) earlier) (fresh q))
-      by-test false q d = subst Distinct (sym (append-nil earlier)) d
-
-  -- all different
-  pub features-distinct : Distinct (featuresIn w (nameId w i))
-  unfolding featuresIn
-  features-distinct = among-distinct (rowCount w) (omega arith)
+  features-length =
+      let t : ℕ → Bool = λ (r : ℕ). member (nameId w i) (listAt w r) in
+      length-map (passingBelow (rowCount w) t) (rowFeature w) ∙ length-passing t (rowCount w) ∙ good-facts w g .lists .counts i name
 
   -- and those of the lists of its size that hold it
   pub features-member : (f : ℕ) → member f (featuresIn w (nameId w i)) ≡ member (nameId w i) (listIn w (nameSize w i) f)
-  unfolding featuresIn
   features-member f =
-      same-test (member f (featuresAmong w (nameId w i) (rowCount w))) (member (nameId w i) (listIn w (nameSize w i) f))
+      same-test (member f (featuresIn w (nameId w i))) (member (nameId w i) (listIn w (nameSize w i) f))
       (λ m.
-      let v = among-at w (nameId w i) (rowCount w) f m in
+      let v = features-row w (nameId w i) f m in
       let e : rowFor w (nameSize w i) f ≡ v .0 = row-for w g (nameSize w i) f (v .0) (v .1) (holder-size (v .0) (v .1) (v .2)) (v .3) in
       ap (member (nameId w i)) (list-row w (nameSize w i) f (subst (λ (r : ℕ). r < rowCount w) (sym e) (v .1)) ∙ ap (listAt w) e) ∙ v .2)
       (λ m.
       let h = list-holder w (nameSize w i) f (nameId w i) m in
       let e = row-found w (nameSize w i) f (h .0) .1 in
-      subst (λ (x : ℕ). member x (featuresAmong w (nameId w i) (rowCount w)) ≡ true) e (among-of w (nameId w i) (rowCount w) (rowFor w (nameSize w i) f) (h .0) (h .1)))
+      subst (λ (x : ℕ). member x (featuresIn w (nameId w i)) ≡ true) e (row-features w (nameId w i) (rowFor w (nameSize w i) f) (h .0) (h .1)))
+
+-- ---- in which order
+
+-- a row before another of its size has a smaller feature
+before-feature : (w : List ℕ) (r s : ℕ) → rowSize w r ≡ rowSize w s → Before w r s → rowFeature w r < rowFeature w s
+unfolding Before
+before-feature w r s e (inl c) = absurd (omega arith)
+before-feature w r s e (inr c) = c .1
+
+module _ (w : List ℕ) (g : Good w) where
+  -- the rows that list an id are of one size
+  rows-of-id : (r s id : ℕ) → r < rowCount w → s < rowCount w → member id (listAt w r) ≡ true → member id (listAt w s) ≡ true
+      → rowSize w r ≡ rowSize w s
+  rows-of-id r s id h k m n =
+      let p = row-named w g r id h m in
+      holder-size w g (p .0) (p .1) r h (ap (λ (x : ℕ). member x (listAt w r)) (p .2) ∙ m)
+      ∙ sym (holder-size w g (p .0) (p .1) s k (ap (λ (x : ℕ). member x (listAt w s)) (p .2) ∙ n))
+
+  -- a name stands for its features in ascending order
+  pub features-ascending : (id : ℕ) → Ascending (featuresIn w id)
+  unfolding featuresIn
+  features-ascending id =
+      ascending-passing (λ (r : ℕ). member id (listAt w r)) (rowFeature w) (rowCount w) (λ r s l h m n.
+      before-feature w r s (rows-of-id r s id (omega arith) h m n) (good-facts w g .rows .before r s l h))
+
+  -- so they are all different
+  pub features-distinct : (id : ℕ) → Distinct (featuresIn w id)
+  features-distinct id = ascending-distinct (featuresIn w id) (features-ascending id)
 
 -- of any features without repeats, at most as many as its size have lists that hold the name
 pub held-le-size : (w : List ℕ) → Good w → (i : ℕ) → i < nameCount w → (q : List ℕ) → Distinct q
@@ -233,6 +202,6 @@ unfolding sharedOf
 held-le-size w g i l q d =
     let e = count-ext (λ (f : ℕ). member (nameId w i) (listIn w (nameSize w i) f)) (λ (f : ℕ). member f (featuresIn w (nameId w i)))
     (λ f. sym (features-member w g i l f)) q in
-    let s = shared-le-right q (featuresIn w (nameId w i)) d (features-distinct w g i l) in
+    let s = shared-le-right q (featuresIn w (nameId w i)) d (features-distinct w g (nameId w i)) in
     let n = features-length w g i l in
     omega arith

@@ -1,10 +1,11 @@
 -- The list of a size and a feature, and what a name in an index stands for.
 -- Assumes nothing.
 use mathlib.Core.Bool.{Bool, cond, _&&_}
-use mathlib.Core.List.{List, [], _∷_, _++_}
-use Prim.Native.Nat.{ℕ, zero, suc}
+use mathlib.Core.List.{List, [], map}
+use Prim.Native.Nat.{ℕ}
 use lib.Dec.{ltb, eqb}
 use Rattle.laws.specs.Lists.{member}
+use Rattle.laws.specs.Below.{passingBelow}
 use Rattle.laws.specs.First.{firstFrom}
 use Rattle.words.specs.Words.{rowCount, rowSize, rowFeature, rowLength, listStart, listAt}
 use Rattle.index.specs.Good.{goodOf}
@@ -36,11 +37,6 @@ listIn w size feature = let r = rowFor w size feature in cond (ltb r (rowCount w
 
 -- ---- what a name stands for
 
--- the features of the first k rows whose lists hold the id, in the rows' order
-unfoldable pub featuresAmong : List ℕ → ℕ → ℕ → List ℕ
-featuresAmong w id zero = []
-featuresAmong w id (suc k) = featuresAmong w id k ++ cond (member id (listAt w k)) (rowFeature w k ∷ []) []
-
--- a name in an index stands for the features whose lists hold it
+-- a name in an index stands for the features of the rows whose lists hold it, in the rows' order
 unfoldable pub featuresIn : List ℕ → ℕ → List ℕ
-featuresIn w id = featuresAmong w id (rowCount w)
+featuresIn w id = map (rowFeature w) (passingBelow (rowCount w) (λ (r : ℕ). member id (listAt w r)))

@@ -4,56 +4,45 @@
 use mathlib.Core.Path.{_≡_, refl, sym, ap, subst, _∙_}
 use mathlib.Core.Logic.{⊎-elim}
 use mathlib.Core.Bool.{Bool, true, false, cond}
-use mathlib.Core.List.{List, [], _∷_, _++_, map, append-nil}
+use mathlib.Core.List.{List, [], _∷_, _++_, map}
 use Prim.Native.Nat.{ℕ, zero, suc, _≤_, _<_, min}
 use native.Mathlib.Nat.{min-eq-left, min-eq-right, min-le-right}
 use native.Mathlib.Omega.{arith}
 use lib.ListN.{length, getD, take, drop, length-append, length-map, List·getD-append}
 use lib.Seq.{length-take-le}
 use lib.Dec.{ltb, eqb}
-use borrow.Author.Tests.{le-ltb, ltb-false, eqb-true, ne-eqb}
-use Rattle.laws.specs.Lists.{tabulate}
+use borrow.Author.Tests.{le-ltb, ltb-false, eqb-true}
 use Rattle.laws.proofs.Order.{le-or-lt}
 use Rattle.laws.proofs.Images.{tabulate-of}
 use Rattle.names.specs.Features.{featuresOf}
 use Rattle.likeness.specs.Terms.{lowestTerms}
-use Rattle.words.specs.Words.{nameCount, nameId, nameSize}
+use Rattle.words.specs.Words.{nameId, nameSize}
 use Rattle.index.specs.Good.{mostNames, goodOf}
 use Rattle.index.proofs.Laws.{good-names-most}
-use Rattle.sizes.specs.Method.{sharedWith, touchesOf, listed, answersBelow, answersOf}
+use Rattle.sizes.specs.Method.{sharedWith, touchesOf, answersOf}
 use Rattle.search.specs.Answers.{rowsIn, refusalOf, searchGoodOf, searchOf, givenBy, Columns, roomOf, columnsOf, columnsOver, placesGiven, Searched}
-use Rattle.search.proofs.Outcomes.{asked}
+use Rattle.search.proofs.Outcomes.{admitted}
+use Rattle.search.proofs.Listed.{answers-most}
 use Rattle.search.specs.declared.Answer.{Answer}
 use Rattle.search.specs.declared.Answer.the-variants.{Found, Refused}
-use Rattle.rows.specs.declared.Row.{Row}
 use Rattle.rows.specs.Rows.{rowOf, rowsOf, rowAt, rowsFrom, Filled}
 use Rattle.rows.proofs.Lists.{noRow}
 
 -- ---- how many answers there are
 
 module _ (w : List ℕ) (m p q : ℕ) (query : List ℕ) where
-  below-most : (k : ℕ) → length (answersBelow w m p q query k) ≤ k
-  unfolding answersBelow
-  below-most zero = omega arith
-  below-most (suc k) = by-test (listed w m p q query k) (below-most k)
-    where
-      by-test : (b : Bool) → length (answersBelow w m p q query k) ≤ k → length (answersBelow w m p q query k ++ cond b (k ∷ []) []) ≤ suc k
-      by-test true h = let e = length-append (answersBelow w m p q query k) (k ∷ []) in omega arith
-      by-test false h = let e = ap length (append-nil (answersBelow w m p q query k)) in omega arith
-
   -- at most as many as a good index has names
-  pub answers-most : goodOf w ≡ true → length (answersOf w m p q query) ≤ mostNames
-  unfolding answersOf
-  answers-most g =
-      let a = below-most (nameCount w) in
+  pub answers-few : goodOf w ≡ true → length (answersOf w m p q query) ≤ mostNames
+  answers-few g =
+      let a = answers-most w m p q query in
       let b = good-names-most w g in
       omega arith
 
 -- ---- the cases of an answer
 
--- what is not refused before the search is asked of a good index
+-- what is not refused before the search has a good index
 refusal-good : (s : List ℕ) (m p q : ℕ) (w : List ℕ) → refusalOf s m p q w ≡ 0 → goodOf w ≡ true
-refusal-good s m p q w e = asked s m p q w e .good
+refusal-good s m p q w e = admitted s m p q w e .good
 
 module _ (s : List ℕ) (m p q allowance : ℕ) (w : List ℕ) where
   abbrev answers : List ℕ
@@ -75,7 +64,7 @@ module _ (s : List ℕ) (m p q allowance : ℕ) (w : List ℕ) where
           → Outcome room (cond a (Refused 7 allowance) (cond b (Refused 8 (touchesOf w m p q (featuresOf s))) (Found (length answers) (touchesOf w m p q (featuresOf s)) (lowestTerms p q .p) (lowestTerms p q .q))))
       by-tests true b e = refused-outcome room 7 allowance
       by-tests false true e = refused-outcome room 8 (touchesOf w m p q (featuresOf s))
-      by-tests false false e = (refl, ltb-false room (length answers) e, answers-most w m p q (featuresOf s) g)
+      by-tests false false e = (refl, ltb-false room (length answers) e, answers-few w m p q (featuresOf s) g)
 
   pub outcome : (room : ℕ) → Outcome room (searchOf s m p q allowance w room)
   unfolding searchOf
@@ -100,7 +89,7 @@ module _ (s : List ℕ) (m p q allowance : ℕ) (w : List ℕ) where
   good-room room g =
       ap (λ (b : Bool). cond (ltb allowance (touchesOf w m p q (featuresOf s))) (Refused 7 allowance)
       (cond b (Refused 8 (touchesOf w m p q (featuresOf s))) (Found (length answers) (touchesOf w m p q (featuresOf s)) (lowestTerms p q .p) (lowestTerms p q .q))))
-      (same-test room (length answers) (answers-most w m p q (featuresOf s) g))
+      (same-test room (length answers) (answers-few w m p q (featuresOf s) g))
 
   pub room-enough : (room : ℕ) → searchOf s m p q allowance w (min room mostNames) ≡ searchOf s m p q allowance w room
   unfolding searchOf

@@ -3,20 +3,19 @@
 -- Assumes nothing.
 use mathlib.Core.Path.{_≡_, refl, sym, ap, ap₂, subst, _∙_}
 use mathlib.Core.Logic.{_⊎_, ⊎-elim}
-use mathlib.Core.Bool.{Bool, true, false, cond, _&&_, true≢false, false≢true}
-use mathlib.Core.List.{List, [], _∷_, _++_, map, append-nil}
-use Prim.Native.Nat.{ℕ, zero, suc, _+_, _-_, _%_, _≤_, _<_}
+use mathlib.Core.Bool.{Bool, true, false, cond, _&&_, true≢false}
+use mathlib.Core.List.{List, [], _∷_, _++_, map}
+use Prim.Native.Nat.{ℕ, _+_, _-_, _%_, _≤_, _<_}
 use native.Mathlib.Omega.{arith}
-use lib.ListN.{length, getD, take, drop, replicate, length-append, length-replicate}
-use lib.Seq.{getD-take, getD-drop, take-append-seam}
+use lib.ListN.{length, getD, take, replicate, length-append, length-replicate}
+use lib.Seq.{take-append-seam}
 use lib.Dec.{leb, ltb}
-use borrow.Author.Tests.{le-leb, lt-leb, lt-ltb}
-use Rattle.laws.specs.Lists.{tabulate, Ascending}
+use borrow.Author.Tests.{le-leb, lt-ltb}
 use Rattle.laws.specs.Each.{Each}
-use Rattle.laws.specs.Below.{sumBelow}
 use Rattle.laws.specs.Sort.{insert, sortOf}
 use Rattle.laws.proofs.Lists.{getD-tabulate}
 use Rattle.laws.proofs.Below.{sum-below-ext}
+use Rattle.laws.proofs.Passing.{passing-ext, image-ext}
 use Rattle.laws.proofs.Members.{member-place, each-member, each-members}
 use Rattle.laws.proofs.Order.{le-or-lt, eq-or-ne}
 use Rattle.laws.proofs.Sort.{sort-nil, sort-cons, insert-met, insert-passed, insert-swap, length-sort, member-sort, ascending-sort}
@@ -27,11 +26,11 @@ use Rattle.names.specs.Features.{mostFeatures, characters, featuresOf}
 use Rattle.names.specs.Set.{filled}
 use Rattle.names.specs.declared.FeatureSet.{FeatureSet}
 use Rattle.names.proofs.Laws.{size-within, distinct-features, feature-fits}
-use Rattle.words.specs.Words.{nameCount, nameId, nameSize, featureSpan, keyOf}
+use Rattle.words.specs.Words.{nameCount, nameSize, featureSpan, keyOf}
 use Rattle.index.specs.Good.{Good, mostNames}
 use Rattle.index.proofs.Laws.{good-name-within, good-names-most}
 use Rattle.lists.specs.Lists.{listIn}
-use Rattle.sizes.specs.Method.{orderedFor, listsFor, sharedWith, sizesEnd, touchesOfSize, touchesOf, listed, answersBelow, answersOf}
+use Rattle.sizes.specs.Method.{orderedFor, listsFor, sharedWith, sizesEnd, touchesOfSize, touchesOf, listed, answersOf}
 use Rattle.sizes.specs.Tables.{Asked, answeredAt, answersTable}
 use Rattle.search.specs.Places.{placesIn}
 use Rattle.sizes.proofs.Laws.{Query, listed-similar}
@@ -89,14 +88,9 @@ module _ (w : List ℕ) (m p q : ℕ) (f : List ℕ) where
   unfolding listed
   listed-sorted i = rw (lists-sorted w (nameSize w i) f, length-sort f)
 
-  below-sorted : (k : ℕ) → answersBelow w m p q (sortOf f) k ≡ answersBelow w m p q f k
-  unfolding answersBelow
-  below-sorted zero = refl
-  below-sorted (suc k) = ap₂ (λ (l : List ℕ) (b : Bool). l ++ cond b (k ∷ []) []) (below-sorted k) (listed-sorted k)
-
   pub answers-sorted : answersOf w m p q (sortOf f) ≡ answersOf w m p q f
   unfolding answersOf
-  answers-sorted = below-sorted (nameCount w)
+  answers-sorted = passing-ext (nameCount w) (listed w m p q (sortOf f)) (listed w m p q f) (λ i h. listed-sorted i)
 
 -- a query's features, sorted, are features as the code has them
 pub asked-of : (f : List ℕ) → Query f → length f ≤ mostFeatures → Asked (sortOf f)
@@ -140,38 +134,15 @@ module _ (w : List ℕ) (good : Good w) (m p q : ℕ) (known : goodMeasure m ≡
       by-test true e = le-leb 1 (sharedWith w f i) (answer-shares i h e)
       by-test false e = refl
 
-  places-below : (k : ℕ) → k ≤ nameCount w → placesIn (answersTable w m p q f sizesEnd) k ≡ answersBelow w m p q f k
-  unfolding placesIn answersBelow
-  places-below zero h = refl
-  places-below (suc k) h = ap₂ (λ (l : List ℕ) (b : Bool). l ++ cond b (k ∷ []) []) (places-below k (omega arith)) (listed-at k h)
-
   pub places-answers : placesIn (answersTable w m p q f sizesEnd) (nameCount w) ≡ answersOf w m p q f
-  unfolding answersOf
-  places-answers = places-below (nameCount w) (omega arith)
-
-  map-snoc : (g : ℕ → ℕ) (l : List ℕ) (b : Bool) (k : ℕ) → map g (l ++ cond b (k ∷ []) []) ≡ map g l ++ cond b (g k ∷ []) []
-  map-snoc g [] true k = refl
-  map-snoc g [] false k = refl
-  map-snoc g (x ∷ l) b k = ap (λ (r : List ℕ). g x ∷ r) (map-snoc g l b k)
+  unfolding placesIn answersOf
+  places-answers = passing-ext (nameCount w) (λ (i : ℕ). leb 1 (getD (answersTable w m p q f sizesEnd) i 0)) (listed w m p q f) listed-at
 
   -- columns that agree at each answer
-  column-below : (g h : ℕ → ℕ) → ((i : ℕ) → i < nameCount w → listed w m p q f i ≡ true → g i ≡ h i) → (k : ℕ) → k ≤ nameCount w
-      → map g (answersBelow w m p q f k) ≡ map h (answersBelow w m p q f k)
-  unfolding answersBelow
-  column-below g h e zero l = refl
-  column-below g h e (suc k) l =
-      map-snoc g (answersBelow w m p q f k) (listed w m p q f k) k
-      ∙ ap₂ (λ (x y : List ℕ). x ++ y) (column-below g h e k (omega arith)) (by-test (listed w m p q f k) refl)
-      ∙ sym (map-snoc h (answersBelow w m p q f k) (listed w m p q f k) k)
-    where
-      by-test : (b : Bool) → listed w m p q f k ≡ b → cond b (g k ∷ []) [] ≡ cond b (h k ∷ []) []
-      by-test true c = ap (λ (n : ℕ). n ∷ []) (e k l c)
-      by-test false c = refl
-
   pub column-answers : (g h : ℕ → ℕ) → ((i : ℕ) → i < nameCount w → listed w m p q f i ≡ true → g i ≡ h i)
       → map g (answersOf w m p q f) ≡ map h (answersOf w m p q f)
   unfolding answersOf
-  column-answers g h e = column-below g h e (nameCount w) (omega arith)
+  column-answers g h e = image-ext (listed w m p q f) g (nameCount w) h e
 
   pub shared-column : map (λ (i : ℕ). getD (answersTable w m p q f sizesEnd) i 0) (answersOf w m p q f) ≡ map (sharedWith w f) (answersOf w m p q f)
   shared-column = column-answers (λ (i : ℕ). getD (answersTable w m p q f sizesEnd) i 0) (sharedWith w f) (λ i h e. answer-at i h ∙ (rw e))

@@ -45,15 +45,15 @@ pub given-found : (r : Answer) (n t p q : ℕ) (l : List ℕ) → r ≡ Found n 
 unfolding givenBy
 given-found r n t p q l e = ap (λ (s : Answer). givenBy s l) e
 
--- what a question that is not refused before 7 is
-pub record Asked (s : List ℕ) (m p q : ℕ) (w : List ℕ) : Type 0 where
+-- what is not refused before 7 is admitted: a good query, a known measure, an exact threshold and a good index
+pub record Admitted (s : List ℕ) (m p q : ℕ) (w : List ℕ) : Type 0 where
   pub judged : judgeOf s ≡ 0
   pub known : goodMeasure m ≡ true
   pub exact : goodThreshold p q ≡ true
   pub good : Good w
 
-pub asked : (s : List ℕ) (m p q : ℕ) (w : List ℕ) → refusalOf s m p q w ≡ 0 → Asked s m p q w
-asked s m p q w z =
+pub admitted : (s : List ℕ) (m p q : ℕ) (w : List ℕ) → refusalOf s m p q w ≡ 0 → Admitted s m p q w
+admitted s m p q w z =
     ⊎-elim
     (λ (e : questionOf s m p q ≡ 0).
     let h = question-good s m p q e in
@@ -68,7 +68,7 @@ asked s m p q w z =
 module _ (s : List ℕ) (m p q allowance : ℕ) (w : List ℕ) (room : ℕ) where
   -- what an answered search is
   pub record Answered : Type 0 where
-    pub asked : Asked s m p q w
+    pub admitted : Admitted s m p q w
     pub form : searchOf s m p q allowance w room
         ≡ Found (length (answersOf w m p q (featuresOf s))) (touchesOf w m p q (featuresOf s)) (lowestTerms p q .p) (lowestTerms p q .q)
     pub enough : touchesOf w m p q (featuresOf s) ≤ allowance
@@ -86,7 +86,7 @@ module _ (s : List ℕ) (m p q allowance : ℕ) (w : List ℕ) (room : ℕ) wher
       by-tests false t true r = let e = ap numberIn (runs ∙ good-full s m p q allowance w room t r) in absurd (omega arith)
       by-tests false t false r =
           record {
-            asked = asked s m p q w z;
+            admitted = admitted s m p q w z;
             form = runs ∙ good-found s m p q allowance w room t r;
             enough = (let h = ltb-false allowance (touchesOf w m p q (featuresOf s)) t in omega arith);
             fits = (let h = ltb-false room (length (answersOf w m p q (featuresOf s))) r in omega arith);

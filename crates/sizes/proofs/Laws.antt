@@ -29,7 +29,7 @@ use Rattle.lists.specs.Lists.{listIn}
 use Rattle.lists.proofs.Laws.{held-le-size}
 use Rattle.candidates.specs.Method.{heldBy, signatures, remains, laterCount}
 use Rattle.candidates.proofs.Candidates.{remains-end}
-use Rattle.sizes.specs.Method.{orderedFor, listsFor, sharedWith, listed, answersBelow, answersOf}
+use Rattle.sizes.specs.Method.{orderedFor, listsFor, sharedWith, listed, answersOf}
 
 -- ---- the order of the query's features changes no count
 

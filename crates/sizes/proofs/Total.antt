@@ -1,15 +1,15 @@
 -- Words that agree with a good index up to its total are searched alike: the same steps, the same answers, the same counts.
 -- Assumes nothing.
-use mathlib.Core.Path.{_≡_, refl, ap, ap₂, _∙_}
-use mathlib.Core.Bool.{Bool, cond, _&&_}
-use mathlib.Core.List.{List, [], _∷_, _++_, map}
-use Prim.Native.Nat.{ℕ, zero, suc, _+_, _%_, _≤_, _<_}
-use native.Mathlib.Omega.{arith}
+use mathlib.Core.Path.{_≡_, ap, ap₂, _∙_}
+use mathlib.Core.Bool.{cond, _&&_}
+use mathlib.Core.List.{List, map}
+use Prim.Native.Nat.{ℕ, _+_, _%_, _≤_, _<_}
 use lib.ListN.{length, take}
 use lib.Dec.{eqb}
-use Rattle.laws.specs.Below.{sumBelow}
+use Rattle.laws.specs.Below.{sumBelow, passingBelow}
 use Rattle.laws.specs.Sort.{sortOf}
 use Rattle.laws.proofs.Below.{sum-below-ext}
+use Rattle.laws.proofs.Passing.{passing-ext}
 use Rattle.likeness.specs.Sizes.{isSearched}
 use Rattle.likeness.specs.Least.{leastCount}
 use Rattle.words.specs.Words.{nameCount, nameId, nameSize, featureSpan, keyOf, total}
@@ -17,7 +17,7 @@ use Rattle.index.specs.Good.{Good}
 use Rattle.index.proofs.Total.{names-same, id-same, size-same}
 use Rattle.lists.proofs.Total.{list-in-same}
 use Rattle.candidates.specs.Method.{heldBy, signaturePostings, remains, laterCount}
-use Rattle.sizes.specs.Method.{orderedFor, listsFor, remaining, touchesAt, sharedWith, sizesEnd, touchesOfSize, touchesOf, listed, answersBelow, answersOf}
+use Rattle.sizes.specs.Method.{orderedFor, listsFor, remaining, touchesAt, sharedWith, sizesEnd, touchesOfSize, touchesOf, listed, answersOf}
 
 module _ (w v : List ℕ) (same : take (total w) w ≡ take (total w) v) (long : total w ≤ length v) (good : Good w) (query : List ℕ) where
   -- the lists of a size, in their order
@@ -71,13 +71,9 @@ module _ (w v : List ℕ) (same : take (total w) w ≡ take (total w) v) (long :
         && remains ls (leastCount m p q (length query) (nameSize w i)) (laterCount ls (leastCount m p q (length query) (nameSize w i))) (nameId w i))
         (lists-same (nameSize w i))
 
-    below-same : (k : ℕ) → k ≤ nameCount w → answersBelow v m p q query k ≡ answersBelow w m p q query k
-    unfolding answersBelow
-    below-same zero h = refl
-    below-same (suc k) h =
-        ap₂ (λ (l : List ℕ) (b : Bool). l ++ cond b (k ∷ []) []) (below-same k (omega arith)) (listed-same k (omega arith))
-
     -- the places of the answers
     pub answers-same : answersOf v m p q query ≡ answersOf w m p q query
     unfolding answersOf
-    answers-same = ap (answersBelow v m p q query) (names-same w v same long) ∙ below-same (nameCount w) (omega arith)
+    answers-same =
+        ap (λ (n : ℕ). passingBelow n (listed v m p q query)) (names-same w v same long)
+        ∙ passing-ext (nameCount w) (listed v m p q query) (listed w m p q query) listed-same

@@ -2,11 +2,11 @@
 -- What one size does with its lists in order, and where it departs from the paper: specs/Method.antt of `candidates`.
 -- Assumes nothing.
 use mathlib.Core.Bool.{Bool, cond, _&&_}
-use mathlib.Core.List.{List, [], _∷_, _++_, map}
-use Prim.Native.Nat.{ℕ, zero, suc, _+_, _%_}
+use mathlib.Core.List.{List, map}
+use Prim.Native.Nat.{ℕ, _+_, _%_}
 use lib.ListN.{length}
 use lib.Dec.{eqb}
-use Rattle.laws.specs.Below.{sumBelow, countBelow}
+use Rattle.laws.specs.Below.{sumBelow, countBelow, passingBelow}
 use Rattle.laws.specs.Sort.{sortOf}
 use Rattle.names.specs.Features.{mostFeatures}
 use Rattle.likeness.specs.Sizes.{isSearched}
@@ -66,11 +66,6 @@ module _ (w : List ℕ) (m p q : ℕ) (query : List ℕ) where
       let t = leastCount m p q (length query) y in
       isSearched m p q (length query) y && remains ls t (laterCount ls t) (nameId w i)
 
-  -- the places among the names of the answers below k, in the names' order, which is that of the ids
-  unfoldable pub answersBelow : ℕ → List ℕ
-  answersBelow zero = []
-  answersBelow (suc k) = answersBelow k ++ cond (listed k) (k ∷ []) []
-
-  -- the places among the names of all answers
+  -- the places among the names of all answers, in the names' order, which is that of the ids
   unfoldable pub answersOf : List ℕ
-  answersOf = answersBelow (nameCount w)
+  answersOf = passingBelow (nameCount w) listed

@@ -24,7 +24,7 @@ use Rattle.register.proofs.Names.{accepted-name, accepted-count, accepted-id, a
 use Rattle.search.specs.Answers.{numberIn, rowsIn, refusalOf}
 use Rattle.search.specs.declared.Answer.the-variants.{Refused}
 use Rattle.search.proofs.Answered.{search-refused}
-use Rattle.search.proofs.Outcomes.{asked}
+use Rattle.search.proofs.Outcomes.{admitted}
 use Rattle.statements.specs.Demands.{Lending, columns, records, Question, Bytes, answer, number, after, Answered, RefusedBefore, sharedBy, Reaches, rowIds, Demand2, Accepted, ofBuilt, Builds, sharedWithLine, Listing, EndToEnd}
 use Rattle.statements.proofs.Lent.{Lends, columns-lend, records-lend}
 use Rattle.statements.proofs.Demands.{refused-first, demands}
@@ -35,7 +35,7 @@ use Rattle.statements.proofs.Demands.{refused-first, demands}
 pub bad-answer : {A : Type 0} (s : Lending A) (a : Question A) → goodOf (a .words) ≡ false
     → (answer s a ≡ Refused (refusalOf (a .query) (a .measure) (a .p) (a .q) (a .words)) 0) × (number s a ≡ 0 → ⊥)
 bad-answer s a g =
-    let n : refusalOf (a .query) (a .measure) (a .p) (a .q) (a .words) ≡ 0 → ⊥ = λ z. false≢true (sym g ∙ asked (a .query) (a .measure) (a .p) (a .q) (a .words) z .good) in
+    let n : refusalOf (a .query) (a .measure) (a .p) (a .q) (a .words) ≡ 0 → ⊥ = λ z. false≢true (sym g ∙ admitted (a .query) (a .measure) (a .p) (a .q) (a .words) z .good) in
     let e = search-refused (a .query) (a .measure) (a .p) (a .q) (a .allowance) (a .words) (s .room (a .lent)) (refusalOf (a .query) (a .measure) (a .p) (a .q) (a .words)) refl n in
     (e, λ z. n (sym (ap numberIn e) ∙ z))
 

@@ -34,7 +34,7 @@ use Rattle.search.specs.declared.Answer.the-variants.{Found, Refused}
 use Rattle.sizes.proofs.Laws.{length-lists, held-features, listed-similar, Query}
 use Rattle.search.proofs.AgainstMethod.{query-features}
 use Rattle.search.proofs.Answered.{good-past, good-full, good-found, search-refused, search-runs}
-use Rattle.search.proofs.Outcomes.{refused-empty, refused-gives, given-found, Asked, asked, Answered as AnsweredOf, answered}
+use Rattle.search.proofs.Outcomes.{refused-empty, refused-gives, given-found, Admitted, admitted, Answered as AnsweredOf, answered}
 use Rattle.search.proofs.Listed.{over-taken, over-at, answer-place, answer-ids, answer-listed}
 use Rattle.sizes.proofs.Work.{touches-candidates, candidates-names, touches-all, touches-most, signatures-least}
 use Rattle.statements.specs.Demands.{Lending, columns, records, Question, Bytes, answer, number, steps, found, after, beforeWork, afterWork, refusals, touchesWith, Demand1, sharedBy, Reaches, rowIds, Demand2, withAllowance, leastAt, listsAt, postingsAt, candidatesAt, Demand3, Demands, Searches}
@@ -144,8 +144,8 @@ module _ {A : Type 0} (s : Lending A) (lends : Lends s) (a : Question A) where
   -- ---- demand 2
 
   -- a question by its parts
-  abbrev AskedBy : Type 0
-  AskedBy = Asked (a .query) (a .measure) (a .p) (a .q) (a .words)
+  abbrev AdmittedBy : Type 0
+  AdmittedBy = Admitted (a .query) (a .measure) (a .p) (a .q) (a .words)
 
   abbrev AnsweredBy : Type 0
   AnsweredBy = AnsweredOf (a .query) (a .measure) (a .p) (a .q) (a .allowance) (a .words) room
@@ -154,7 +154,7 @@ module _ {A : Type 0} (s : Lending A) (lends : Lends s) (a : Question A) where
   answered-by n = answered (a .query) (a .measure) (a .p) (a .q) (a .allowance) (a .words) room n
 
   -- a name shares the features that it stands for
-  shared-by : AskedBy → Bytes (a .query) → (i : ℕ) → i < nameCount (a .words) → sharedWith (a .words) (featuresOf (a .query)) i ≡ sharedBy a i
+  shared-by : AdmittedBy → Bytes (a .query) → (i : ℕ) → i < nameCount (a .words) → sharedWith (a .words) (featuresOf (a .query)) i ≡ sharedBy a i
   unfolding sharedWith sharedOf
   shared-by k b i h =
       held-features (a .words) (nameSize (a .words) i) (featuresOf (a .query)) (nameId (a .words) i) (query-features (a .query) (k .judged) b .small)
@@ -166,7 +166,7 @@ module _ {A : Type 0} (s : Lending A) (lends : Lends s) (a : Question A) where
       record {
         exactly = exactly;
         true-rows = true-rows;
-        ascending = subst Ascending (sym ids) (answer-ids (a .words) (a .measure) (a .p) (a .q) (featuresOf (a .query)) (k .asked .good));
+        ascending = subst Ascending (sym ids) (answer-ids (a .words) (a .measure) (a .p) (a .q) (featuresOf (a .query)) (k .admitted .good));
         rows = ap length ids ∙ length-map (found a) (nameId (a .words)) ∙ sym rows;
         fits = (let e = rows in let h = k .fits in omega arith);
         beyond = ap₂ (λ (m : ℕ) (l : A). s .behind m l) rows left
@@ -198,14 +198,14 @@ module _ {A : Type 0} (s : Lending A) (lends : Lends s) (a : Question A) where
       exactly : (i : ℕ) → i < nameCount (a .words)
           → (member (nameId (a .words) i) (rowIds s a) ≡ true) ↔ Reaches a (length (featuresOf (a .query))) (nameSize (a .words) i) (sharedBy a i)
       exactly i h =
-          let e = shared-by (k .asked) b i h in
+          let e = shared-by (k .admitted) b i h in
           let same : member (nameId (a .words) i) (rowIds s a) ≡ isSimilar (a .measure) (a .p) (a .q) (length (featuresOf (a .query))) (nameSize (a .words) i) (sharedBy a i) =
           ap (member (nameId (a .words) i)) ids
-          ∙ answer-listed (a .words) (a .measure) (a .p) (a .q) (featuresOf (a .query)) (k .asked .good) i h
-          ∙ listed-similar (a .words) (k .asked .good) (a .measure) (a .p) (a .q) (k .asked .known) (k .asked .exact) (featuresOf (a .query)) (query-features (a .query) (k .asked .judged) b) i h
+          ∙ answer-listed (a .words) (a .measure) (a .p) (a .q) (featuresOf (a .query)) (k .admitted .good) i h
+          ∙ listed-similar (a .words) (k .admitted .good) (a .measure) (a .p) (a .q) (k .admitted .known) (k .admitted .exact) (featuresOf (a .query)) (query-features (a .query) (k .admitted .judged) b) i h
           ∙ ap (isSimilar (a .measure) (a .p) (a .q) (length (featuresOf (a .query))) (nameSize (a .words) i)) e
           in
-          let f = similar-fraction (a .measure) (a .p) (a .q) (length (featuresOf (a .query))) (nameSize (a .words) i) (sharedBy a i) (k .asked .exact) in
+          let f = similar-fraction (a .measure) (a .p) (a .q) (length (featuresOf (a .query))) (nameSize (a .words) i) (sharedBy a i) (k .admitted .exact) in
           (λ m. f .0 (sym same ∙ m), λ r. same ∙ f .1 r)
 
       true-rows : (j : ℕ) → j < rowsIn (answer s a)
@@ -223,15 +223,15 @@ module _ {A : Type 0} (s : Lending A) (lends : Lends s) (a : Question A) where
             i,
             there,
             at _ (s .rows (a .lent) .ids) (nameId (a .words)) (ap (λ (c : Columns). c .ids) rows-left),
-            at _ (s .rows (a .lent) .shared) (sharedWith (a .words) (featuresOf (a .query))) (ap (λ (c : Columns). c .shared) rows-left) ∙ shared-by (k .asked) b i there,
+            at _ (s .rows (a .lent) .shared) (sharedWith (a .words) (featuresOf (a .query))) (ap (λ (c : Columns). c .shared) rows-left) ∙ shared-by (k .admitted) b i there,
             at _ (s .rows (a .lent) .sizes) (nameSize (a .words)) (ap (λ (c : Columns). c .sizes) rows-left),
           )
 
   -- ---- demand 3
 
   module _ (b : Bytes (a .query)) (z : refusalOf (a .query) (a .measure) (a .p) (a .q) (a .words) ≡ 0) where
-    asked-by : AskedBy
-    asked-by = asked (a .query) (a .measure) (a .p) (a .q) (a .words) z
+    admitted-by : AdmittedBy
+    admitted-by = admitted (a .query) (a .measure) (a .p) (a .q) (a .words) z
 
     runs : (n : ℕ) → answer s (withAllowance n a) ≡ searchGoodOf (a .query) (a .measure) (a .p) (a .q) n (a .words) room
     runs n = search-runs (a .query) (a .measure) (a .p) (a .q) n (a .words) room z
@@ -260,14 +260,14 @@ module _ {A : Type 0} (s : Lending A) (lends : Lends s) (a : Question A) where
         ∙ sym (k .form)
 
     asks : Query (featuresOf (a .query))
-    asks = query-features (a .query) (asked-by .judged) b
+    asks = query-features (a .query) (admitted-by .judged) b
 
     a-size : (y : ℕ) → 0 < y → isSearched (a .measure) (a .p) (a .q) (length (featuresOf (a .query))) y ≡ true
         → (touchesOfSize (a .words) (a .measure) (a .p) (a .q) (featuresOf (a .query)) y ≤ postingsAt a y + candidatesAt a y * (leastAt a y - 1))
         × (postingsAt a y + candidatesAt a y * (leastAt a y - 1) ≤ length (featuresOf (a .query)) * namesOf (a .words) y)
     unfolding touchesOfSize
     a-size y h e =
-        let k = asked-by in
+        let k = admitted-by in
         let some = asks .some in
         let low = least-pos (a .measure) (a .p) (a .q) (length (featuresOf (a .query))) y (k .known) (k .exact) in
         let high = least-within (a .measure) (a .p) (a .q) (length (featuresOf (a .query))) y (omega arith) h e in
@@ -291,8 +291,8 @@ module _ {A : Type 0} (s : Lending A) (lends : Lends s) (a : Question A) where
               (r, ap (λ (x : Answer). s .written (a .words) (featuresOf (a .query)) (givenBy x (found a)) (a .lent)) r);
           a-size = a-size;
           no-size = no-size;
-          in-all = touches-all (a .words) (asked-by .good) (a .measure) (a .p) (a .q) (asked-by .known) (asked-by .exact) (featuresOf (a .query)) asks;
-          most = touches-most (a .words) (asked-by .good) (a .measure) (a .p) (a .q) (asked-by .known) (asked-by .exact) (featuresOf (a .query)) asks (size-most (a .query));
+          in-all = touches-all (a .words) (admitted-by .good) (a .measure) (a .p) (a .q) (admitted-by .known) (admitted-by .exact) (featuresOf (a .query)) asks;
+          most = touches-most (a .words) (admitted-by .good) (a .measure) (a .p) (a .q) (admitted-by .known) (admitted-by .exact) (featuresOf (a .query)) asks (size-most (a .query));
           smallest = λ y chosen n. signatures-least (a .words) y (featuresOf (a .query)) (leastAt a y) (asks .small) chosen n;
         }
 

@@ -2,12 +2,13 @@
 -- Assumes nothing.
 use mathlib.Core.Path.{_≡_, refl, sym, ap, ap₂, _∙_}
 use mathlib.Core.Bool.{Bool, true, cond, _&&_}
-use mathlib.Core.List.{List, [], _∷_, _++_}
-use Prim.Native.Nat.{ℕ, zero, suc, _*_, _≤_, _<_}
+use mathlib.Core.List.{List, [], _∷_}
+use Prim.Native.Nat.{ℕ, _*_, _≤_, _<_}
 use native.Mathlib.Omega.{arith}
 use lib.ListN.{length}
 use lib.Dec.{ltb}
 use Rattle.laws.proofs.Below.{sum-below-ext}
+use Rattle.laws.proofs.Passing.{passing-ext}
 use Rattle.names.specs.Features.{featuresOf}
 use Rattle.likeness.specs.Measures.{goodThreshold}
 use Rattle.likeness.specs.Terms.{lowestTerms}
@@ -18,7 +19,7 @@ use Rattle.likeness.proofs.Least.{least-equal}
 use Rattle.likeness.proofs.Terms.{lowest-equal}
 use Rattle.words.specs.Words.{nameCount, nameId, nameSize}
 use Rattle.candidates.specs.Method.{remains, laterCount}
-use Rattle.sizes.specs.Method.{listsFor, touchesAt, sizesEnd, touchesOfSize, touchesOf, listed, answersBelow, answersOf}
+use Rattle.sizes.specs.Method.{listsFor, touchesAt, sizesEnd, touchesOfSize, touchesOf, listed, answersOf}
 use Rattle.search.specs.Answers.{questionOf, refusalOf, searchGoodOf, searchOf, givenBy, columnsOf}
 use Rattle.search.specs.declared.Answer.{Answer}
 use Rattle.search.specs.declared.Answer.the-variants.{Found, Refused}
@@ -62,14 +63,9 @@ module _ (w : List ℕ) (m p q p′ q′ : ℕ) (good : GoodThreshold p q) (good
         (searched-equal m p q p′ q′ (length query) (nameSize w i) g g′ e)
         (least-equal m p q p′ q′ (length query) (nameSize w i) g g′ e)
 
-    below-equal : (k : ℕ) → answersBelow w m p q query k ≡ answersBelow w m p′ q′ query k
-    unfolding answersBelow
-    below-equal zero = refl
-    below-equal (suc k) = ap₂ (λ (l : List ℕ) (b : Bool). l ++ cond b (k ∷ []) []) (below-equal k) (listed-equal k)
-
     found-equal : answersOf w m p q query ≡ answersOf w m p′ q′ query
     unfolding answersOf
-    found-equal = below-equal (nameCount w)
+    found-equal = passing-ext (nameCount w) (listed w m p q query) (listed w m p′ q′ query) (λ i h. listed-equal i)
 
   module _ (query : List ℕ) (allowance room : ℕ) where
     -- the answer, from what it depends on
