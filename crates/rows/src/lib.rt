@@ -2,7 +2,7 @@
 // The rule: docs/RULE.md, "The counted search"; the definitions: specs/Rows.antt.
 ghost use mathlib.Core.Path.{_≡_};
 ghost use mathlib.Core.List.{_++_};
-ghost use Prim.Native.Nat.{_≤_, min};
+ghost use Prim.Native.Nat.{_≤_};
 ghost use lib.ListN.{length, drop};
 ghost use Rattle.index.specs.Good.{mostNames};
 ghost use Rattle.search.specs.Answers.{searchOf, rowsIn, asColumns};
@@ -35,12 +35,6 @@ fn rows_in(answer: Answer) -> usize
     }
 }
 
-fn smaller(a: usize, b: usize) -> usize
-    ensures { λ r. ⌜ r ≡ min a b ⌝ }
-{
-    if a < b { a } else { b }
-}
-
 // The search into columns that have room for all names, as if there were `room` rows.
 fn fill_columns(
     query: &[u8],
@@ -57,7 +51,7 @@ fn fill_columns(
     requires { ⌜ (length (now ids) ≡ mostNames) × (length (now shared) ≡ mostNames) × (length (now sizes) ≡ mostNames) ⌝ }
     ensures { λ r. ⌜ Filled (now (query .entry)) measure p q allowance (now (words .entry)) room r (asColumns (now (ids .exit)) (now (shared .exit)) (now (sizes .exit))) ⌝ }
 {
-    let n = smaller(room, index::MOST_NAMES);
+    let n = search::smaller(room, index::MOST_NAMES);
     search::search(
         query,
         measure,

@@ -126,7 +126,8 @@ fn cover_sizes(
     )
 }
 
-fn smaller(a: usize, b: usize) -> usize
+// The smaller of two rooms.
+pub fn smaller(a: usize, b: usize) -> usize
     ensures { λ r. ⌜ r ≡ min a b ⌝ }
 {
     if a < b { a } else { b }
