@@ -11,7 +11,8 @@ use lib.ListN.{length, getD, take, drop, replicate}
 use Rattle.laws.specs.Lists.{countOf, tabulate}
 use Rattle.laws.specs.Each.{Each}
 use Rattle.laws.proofs.Lists.{count-append}
-use Rattle.laws.proofs.Members.{or-cases, or-right, each-nil, each-cons, each-append}
+use Rattle.laws.proofs.Tests.{or-right}
+use Rattle.laws.proofs.Members.{or-cases, each-nil, each-cons, each-append}
 use Rattle.laws.proofs.Images.{each-tabulate}
 use Rattle.laws.proofs.Order.{eq-or-ne}
 use Rattle.hex.specs.Lines.{digitOf, placeIn, valueOf, hexOf, hexLine, bytesOf}

@@ -10,6 +10,7 @@ use lib.ListN.{length, getD, take, drop, replicate, length-append, length-drop, 
 use lib.Seq.{length-take-le, drop-drop, getD-drop}
 use lib.Dec.{eqb, ltb}
 use borrow.Author.Tests.{eq-eqb, ne-eqb, eqb-true, lt-ltb, le-ltb}
+use Rattle.laws.proofs.Below.{and-false-right}
 use Rattle.index.specs.Good.{Good, goodOf}
 use Rattle.index.proofs.Laws.{refused-not-good}
 use Rattle.lines.specs.Lines.{linesOf, lineLength, lineFeed, joined}
@@ -55,11 +56,7 @@ begins-at s at =
     ap₂ (λ (x y : ℕ). eqb x 53 && eqb y 49) (getD-drop at s 0 0 ∙ ap (λ (k : ℕ). getD s k 0) (add-zero at)) (getD-drop at s 1 0)
 
 pub begins-short : (s : List ℕ) (at : ℕ) → length s - at < 2 → begins (drop at s) ≡ false
-begins-short s at h = begins-at s at ∙ ap (λ (y : ℕ). eqb (getD s at 0) 53 && eqb y 49) (List·getD-eq-default s 0 {n = at + 1} (omega arith)) ∙ no (eqb (getD s at 0) 53)
-  where
-    no : (t : Bool) → t && false ≡ false
-    no true = refl
-    no false = refl
+begins-short s at h = begins-at s at ∙ ap (λ (y : ℕ). eqb (getD s at 0) 53 && eqb y 49) (List·getD-eq-default s 0 {n = at + 1} (omega arith)) ∙ and-false-right (eqb (getD s at 0) 53) false refl
 
 pub begins-other : (s : List ℕ) (at : ℕ) → (getD s at 0 ≡ 53 → ⊥) → begins (drop at s) ≡ false
 begins-other s at n = begins-at s at ∙ rw (ne-eqb (getD s at 0) 53 n)

@@ -13,7 +13,7 @@ use lib.Dec.{leb}
 use borrow.Author.Tests.{le-leb, leb-true}
 use Rattle.laws.specs.Lists.{member, countOf}
 use Rattle.laws.proofs.Lists.{count-append}
-use Rattle.laws.proofs.Tests.{same-test, and-parts}
+use Rattle.laws.proofs.Tests.{same-test, and-parts, cond-most}
 use Rattle.laws.proofs.Below.{and-left, and-both, and-false-left}
 use Rattle.candidates.specs.Method.{heldBy, signatures, remains, laterCount}
 
@@ -38,10 +38,6 @@ held-nil ls id = refl
 pub held-all : (ls : List (List ℕ)) (id n : ℕ) → length ls ≤ n → heldBy (take n ls) id ≡ heldBy ls id
 held-all ls id n h = ap (λ (l : List (List ℕ)). heldBy l id) (take-all n ls h)
 
-one-most : (b : Bool) → cond b 1 0 ≤ 1
-one-most true = omega arith
-one-most false = omega arith
-
 -- ---- who remains
 
 module _ (ls : List (List ℕ)) (t : ℕ) (low : 1 ≤ t) (high : t ≤ length ls) where
@@ -64,7 +60,7 @@ module _ (ls : List (List ℕ)) (t : ℕ) (low : 1 ≤ t) (high : t ≤ length l
       let g : c ≡ heldBy (take (s + d) ls) id + cond (member id (getD ls (s + d) [])) 1 0 =
       ap (λ (n : ℕ). heldBy (take n ls) id) e ∙ held-step ls id (s + d) (omega arith)
       in
-      let m = one-most (member id (getD ls (s + d) [])) in
+      let m = cond-most (member id (getD ls (s + d) [])) 1 in
       let r = remains-closed d id (omega arith) in
       same-test (remains ls t d id && leb t (c + (length ls - (s + suc d)))) (leb t (c + (length ls - (s + suc d))))
       (λ a. and-parts (remains ls t d id) (leb t (c + (length ls - (s + suc d)))) a .1)

@@ -2,7 +2,7 @@
 -- Assumes nothing.
 use mathlib.Core.Path.{_≡_, refl, sym, ap, ap₂, _∙_}
 use mathlib.Core.Logic.{_⊎_, ⊎-elim}
-use mathlib.Core.Bool.{Bool, true, false, cond, _&&_, _||_, true≢false, false≢true}
+use mathlib.Core.Bool.{Bool, true, false, cond, _&&_, _||_, true≢false, false≢true, or-false}
 use mathlib.Core.List.{List, [], _∷_, _++_}
 use Prim.Native.Nat.{ℕ, zero, suc, _+_, _≤_, _<_}
 use native.Mathlib.Numerals.{add-one}
@@ -17,7 +17,7 @@ use Rattle.laws.proofs.Lists.{eqb-same, member-append, distinct-snoc, length-ta
 use Rattle.laws.proofs.Tables.{table-set, tabulate-self, length-members}
 use Rattle.laws.proofs.Order.{eq-or-ne, le-or-lt}
 use Rattle.laws.specs.Below.{countBelow}
-use Rattle.laws.proofs.Below.{count-below-fewer}
+use Rattle.laws.proofs.Below.{and-false-right, count-below-fewer}
 use Rattle.index.specs.Good.{mostNames}
 use Rattle.candidates.specs.Tables.{holdsAt, MetBy, tallied, testedAt, tested}
 
@@ -53,12 +53,8 @@ holds-more ids l n k i h hi e j ne =
     (ap (λ (x : ℕ). member (getD ids j 0) (take x l)) (add-one k)
     ∙ ap (member (getD ids j 0)) (take-suc l k 0 h)
     ∙ member-append (getD ids j 0) (take k l) (getD l k 0 ∷ [])
-    ∙ (rw apart (or-nothing (member (getD ids j 0) (take k l))))))
+    ∙ (rw apart (or-false (member (getD ids j 0) (take k l))))))
     (le-or-lt (length ids) j)
-  where
-    or-nothing : (b : Bool) → b || false ≡ b
-    or-nothing true = refl
-    or-nothing false = refl
 
 -- the one whose id it is holds now
 holds-now : (ids l : List ℕ) (k i : ℕ) → k < length l → i < length ids → getD ids i 0 ≡ getD l k 0 → holdsAt ids (take (k + 1) l) i ≡ true
@@ -83,16 +79,12 @@ tallied-step ids l counts few n k i h fresh hi e =
     let im : i < mostNames = omega arith in
     let f : ℕ → ℕ = λ (j : ℕ). getD counts j 0 + cond (holdsAt ids (take k l) j) 1 0 in
     let g : ℕ → ℕ = λ (j : ℕ). getD counts j 0 + cond (holdsAt ids (take (k + 1) l) j) 1 0 in
-    let before : holdsAt ids (take k l) i ≡ false = rw (e, fresh) (and-nothing (ltb i (length ids))) in
+    let before : holdsAt ids (take k l) i ≡ false = rw (e, fresh) (and-false-right (ltb i (length ids)) false refl) in
     let was : getD (tabulate f mostNames) i 0 ≡ getD counts i 0 = getD-tabulate f mostNames i 0 im ∙ rw before (let z : getD counts i 0 + 0 ≡ getD counts i 0 = omega arith in z) in
     let will : g i ≡ getD counts i 0 + 1 = rw (holds-now ids l k i h hi e) in
     table-set (tabulate f mostNames) mostNames i (getD (tabulate f mostNames) i 0 + 1) g (length-tabulate f mostNames) im
     (will ∙ ap (λ (c : ℕ). c + 1) (sym was))
     (λ j jm ne. getD-tabulate f mostNames j 0 jm ∙ ap (λ (b : Bool). getD counts j 0 + cond b 1 0) (sym (holds-more ids l n k i h hi e j ne)))
-  where
-    and-nothing : (b : Bool) → b && false ≡ false
-    and-nothing true = refl
-    and-nothing false = refl
 
 -- ---- the candidates met
 
@@ -146,11 +138,7 @@ met-push counts met m i v b e f h z one =
   where
     by-test : (j : ℕ) (c : Bool) → eqb j i ≡ c → leb 1 (getD counts j 0) || (c || false) ≡ leb 1 (cond c v (getD counts j 0))
     by-test j true q = rw (le-leb 1 v one, ap (λ (n : ℕ). getD counts n 0) (eqb-true j i q), z)
-    by-test j false q = or-nothing (leb 1 (getD counts j 0))
-      where
-        or-nothing : (a : Bool) → a || false ≡ a
-        or-nothing true = refl
-        or-nothing false = refl
+    by-test j false q = or-false (leb 1 (getD counts j 0))
 
 -- a place that was met before stays met
 pub met-keep : (counts met : List ℕ) (m i v : ℕ) → MetBy counts met m → i < length counts → 1 ≤ getD counts i 0 → 1 ≤ v

@@ -13,23 +13,13 @@ use lib.Dec.{eqb, ltb, leb}
 use borrow.Author.Tests.{eq-eqb, ne-eqb, eqb-true, eqb-false, lt-ltb, le-ltb, le-leb, lt-leb, leb-true, leb-false}
 use Rattle.laws.specs.Lists.{member, Distinct, tabulate}
 use Rattle.laws.specs.Filter.{filterOf}
-use Rattle.laws.proofs.Lists.{eqb-same, eqb-swap, member-append}
+use Rattle.laws.proofs.Lists.{eqb-swap, member-append}
+use Rattle.laws.proofs.Members.{member-at}
 use Rattle.laws.proofs.Filter.{filter-nil, filter-snoc, length-filter, member-filter, distinct-filter}
 use Rattle.laws.proofs.Tables.{table-of}
 use Rattle.laws.proofs.Order.{eq-or-ne, le-or-lt}
 use Rattle.index.specs.Good.{mostNames}
 use Rattle.candidates.specs.Tables.{holdsAt, MetBy, testedAt, tested}
-
--- the element at a place is in the list
-member-at : (l : List ℕ) (k : ℕ) → k < length l → member (getD l k 0) l ≡ true
-unfolding member
-member-at [] k h = absurd (omega arith)
-member-at (y ∷ l) zero h = rw (eqb-same y)
-member-at (y ∷ l) (suc k) h = or-right (eqb (getD l k 0) y) (member (getD l k 0) l) (member-at l k (omega arith))
-  where
-    or-right : (a b : Bool) → b ≡ true → a || b ≡ true
-    or-right true b e = refl
-    or-right false b e = e
 
 drop-next : (a b : List ℕ) (k : ℕ) → drop k a ≡ drop k b → drop (k + 1) a ≡ drop (k + 1) b
 drop-next a b k e = sym (drop-drop 1 k a) ∙ ap (drop 1) e ∙ drop-drop 1 k b

@@ -6,7 +6,6 @@ use mathlib.Core.Logic.{⊎-elim}
 use mathlib.Core.Bool.{Bool, true, false, cond, _&&_, _||_, or-true, or-false}
 use mathlib.Core.List.{List, [], _∷_, _++_}
 use Prim.Native.Nat.{ℕ, _+_, _-_, _≤_, _<_}
-use native.Mathlib.Nat.{mul-one}
 use native.Mathlib.Numerals.{add-one}
 use native.Mathlib.Omega.{arith}
 use lib.ListN.{length, getD, take, set, replicate, length-take, getD-replicate}
@@ -17,7 +16,7 @@ use Rattle.laws.specs.Lists.{member}
 use Rattle.laws.specs.Below.{allBelow, sumBelow, countBelow}
 use Rattle.laws.specs.First.{firstFrom}
 use Rattle.laws.proofs.Lists.{member-append}
-use Rattle.laws.proofs.Below.{and-both, and-left, and-false-left, and-false-right, all-nil, all-at, all-ext, all-fails, any-of, any-at, sum-below-step, sum-below-most}
+use Rattle.laws.proofs.Below.{and-both, and-left, and-false-left, and-false-right, all-nil, all-at, all-ext, all-fails, any-of, any-at, sum-below-step, count-below-most}
 use Rattle.laws.proofs.First.{first-passes}
 use Rattle.laws.proofs.FirstFound.{first-found, all-more, pairs-more}
 use Rattle.laws.proofs.Order.{eq-or-ne}
@@ -57,14 +56,7 @@ abbrev pub rowsHolding : List ℕ → ℕ → ℕ → ℕ
 rowsHolding w r i = countBelow r (λ (s : ℕ). member (nameId w i) (listAt w s))
 
 holding-most : (w : List ℕ) (r i : ℕ) → rowsHolding w r i ≤ r
-holding-most w r i =
-    let a = sum-below-most r 1 (λ (s : ℕ). cond (member (nameId w i) (listAt w s)) 1 0) (λ s l. at-most (member (nameId w i) (listAt w s))) in
-    let b = mul-one r in
-    omega arith
-  where
-    at-most : (b : Bool) → cond b 1 0 ≤ 1
-    at-most true = omega arith
-    at-most false = omega arith
+holding-most w r i = count-below-most r (λ (s : ℕ). member (nameId w i) (listAt w s))
 
 module _ (w : List ℕ) (r : ℕ) where
   -- the k-th id of row r

@@ -10,6 +10,7 @@ use borrow.Author.Tests.{not-true, not-false, eqb-true, eqb-false, le-leb, lt-le
 use lib.ListN.{length, getD, take, drop, set, length-append}
 use lib.Seq.{length-take-le, take-all, take-at, take-set-lt, getD-take, getD-append-add, sets, sets-eq}
 use lib.Dec.{eqb}
+use Rattle.laws.proofs.Tests.{cond-most}
 use Rattle.laws.proofs.Order.{le-or-lt}
 use Rattle.words.specs.Words.{rowWidth, featureSpan}
 use Rattle.index_writer.specs.Built.{Row, oneRow, longerRow, idSpan, listsOf, runsOf, rowWords}
@@ -44,10 +45,6 @@ begins-more ks (suc m) h b =
 
 -- ---- how many rows
 
-bit-most : (t : Bool) → cond t 1 0 ≤ 1
-bit-most true = omega arith
-bit-most false = omega arith
-
 pub rows-nil : (ks : List ℕ) → length (runsOf (take 0 ks)) ≡ 0
 unfolding runsOf
 rows-nil ks = refl
@@ -70,7 +67,7 @@ rows-few ks (suc i) h =
     let e : suc i ≡ i + 1 = omega arith in
     let a = rows-few ks i (omega arith) in
     let b = rows-step ks i (omega arith) in
-    let m = bit-most (begins ks i) in
+    let m = cond-most (begins ks i) 1 in
     let f = ap (λ (n : ℕ). length (runsOf (take n ks))) e in
     omega arith
 

@@ -183,25 +183,20 @@ runs-fit (k ∷ ks) a =
 rest-fit : (r : Row) (rs : List Row) → RowsFit (r ∷ rs) → RowsFit rs
 rest-fit r rs f = record { keys = ascending-rest (r .key) (map keyIn rs) (f .keys); each = each-rest RowFit r rs (f .each) }
 
+-- a posting is its key and its id
+quotient : (key id : ℕ) → id < idSpan → (key * idSpan + id) / idSpan ≡ key
+quotient key id b = omega arith
+
+remainder : (key id : ℕ) → id < idSpan → (key * idSpan + id) % idSpan ≡ id
+remainder key id b = omega arith
+
 -- a posting of a key below those of the rows
 join-lower : (key id : ℕ) (rs : List Row) → id < idSpan → AllAbove key (map keyIn rs)
     → joinRow (key * idSpan + id) rs ≡ record { key = key; list = id ∷ [] } ∷ rs
-join-lower key id [] b a = join-nil (key * idSpan + id) ∙ (λ i. record { key = quotient i; list = remainder i ∷ [] } ∷ [])
-  where
-    quotient : (key * idSpan + id) / idSpan ≡ key
-    quotient = omega arith
-
-    remainder : (key * idSpan + id) % idSpan ≡ id
-    remainder = omega arith
+join-lower key id [] b a = join-nil (key * idSpan + id) ∙ (λ i. record { key = quotient key id b i; list = remainder key id b i ∷ [] } ∷ [])
 join-lower key id (r ∷ rs) b a =
-    join-other (key * idSpan + id) r rs apart ∙ (λ i. record { key = quotient i; list = remainder i ∷ [] } ∷ r ∷ rs)
+    join-other (key * idSpan + id) r rs apart ∙ (λ i. record { key = quotient key id b i; list = remainder key id b i ∷ [] } ∷ r ∷ rs)
   where
-    quotient : (key * idSpan + id) / idSpan ≡ key
-    quotient = omega arith
-
-    remainder : (key * idSpan + id) % idSpan ≡ id
-    remainder = omega arith
-
     apart : (key * idSpan + id) / idSpan ≡ r .key → ⊥
     apart e = let h = above-member key (map keyIn (r ∷ rs)) a (r .key) (member-head (r .key) (map keyIn rs)) in omega arith
 
@@ -209,13 +204,7 @@ join-lower key id (r ∷ rs) b a =
 join-first : (key id : ℕ) (l : List ℕ) (rs : List Row) → id < idSpan
     → joinRow (key * idSpan + id) (record { key = key; list = l } ∷ rs) ≡ record { key = key; list = id ∷ l } ∷ rs
 join-first key id l rs b =
-    join-same (key * idSpan + id) (record { key = key; list = l }) rs quotient ∙ (λ i. record { key = key; list = remainder i ∷ l } ∷ rs)
-  where
-    quotient : (key * idSpan + id) / idSpan ≡ key
-    quotient = omega arith
-
-    remainder : (key * idSpan + id) % idSpan ≡ id
-    remainder = omega arith
+    join-same (key * idSpan + id) (record { key = key; list = l }) rs (quotient key id b) ∙ (λ i. record { key = key; list = remainder key id b i ∷ l } ∷ rs)
 
 -- the postings of one row in front of those of the rows after it
 runs-row : (key x : ℕ) (l : List ℕ) (rs : List Row) (ks : List ℕ) → ((id : ℕ) → member id (x ∷ l) ≡ true → id < idSpan)

@@ -8,6 +8,7 @@ use native.Mathlib.Nat.{eq-or-lt-of-le, add-zero, suc-mul, mul-zero, mul-add}
 use native.Mathlib.Numerals.{add-one}
 use native.Mathlib.Omega.{arith}
 use Rattle.laws.specs.Below.{allBelow, anyBelow, sumBelow, countBelow}
+use Rattle.laws.proofs.Tests.{or-right}
 
 -- ---- a test of two parts
 
@@ -78,13 +79,9 @@ any-of zero t i l e = absurd (omega arith)
 any-of (suc n) t i l e =
     let m : i ≤ n = omega arith in
     ⊎-elim
-    (λ (s : i ≡ n). at-last (anyBelow n t) (t n) (ap t (sym s) ∙ e))
+    (λ (s : i ≡ n). or-right (anyBelow n t) (t n) (ap t (sym s) ∙ e))
     (λ (s : i < n). rw (any-of n t i s e))
     (eq-or-lt-of-le m)
-  where
-    at-last : (a b : Bool) → b ≡ true → a || b ≡ true
-    at-last true b q = refl
-    at-last false b q = q
 
 pub any-at : (n : ℕ) (t : ℕ → Bool) → anyBelow n t ≡ true → (i : ℕ) × (i < n) × (t i ≡ true)
 unfolding anyBelow

@@ -27,6 +27,12 @@ eqb-swap x y = by-test (eqb x y) refl
     by-test true e = e ∙ sym (eq-eqb y x (sym (eqb-true x y e)))
     by-test false e = e ∙ sym (ne-eqb y x (λ q. eqb-false x y e (sym q)))
 
+-- ---- no element
+
+pub length-nil : {A : Type 0} (l : List A) → length l ≡ 0 → l ≡ []
+length-nil [] e = refl
+length-nil (x ∷ l) e = absurd (omega arith)
+
 -- ---- member
 
 pub member-append : (x : ℕ) (k l : List ℕ) → member x (k ++ l) ≡ member x k || member x l

@@ -13,17 +13,13 @@ use borrow.Author.Tests.{eqb-true}
 use Rattle.laws.specs.Lists.{member, Distinct}
 use Rattle.laws.specs.Each.{Each}
 use Rattle.laws.proofs.Lists.{eqb-same, member-append}
-use Rattle.laws.proofs.Tests.{test-fails}
+use Rattle.laws.proofs.Tests.{test-fails, or-right}
 
 -- ---- tests
 
 pub or-cases : (a b : Bool) → a || b ≡ true → (a ≡ true) ⊎ (b ≡ true)
 or-cases true b e = inl refl
 or-cases false b e = inr e
-
-pub or-right : (a b : Bool) → b ≡ true → a || b ≡ true
-or-right true b e = refl
-or-right false b e = e
 
 -- ---- one element in front
 

@@ -16,7 +16,7 @@ use Rattle.laws.specs.Below.{sumBelow, countBelow}
 use Rattle.laws.proofs.Lists.{length-tabulate, getD-tabulate, count-none, count-ext, count-either, count-one}
 use Rattle.laws.proofs.Below.{sum-below-ext}
 use Rattle.laws.proofs.Order.{eq-or-ne, le-or-lt}
-use Rattle.laws.proofs.Tests.{same-test}
+use Rattle.laws.proofs.Tests.{same-test, or-right}
 
 -- ---- a table
 
@@ -73,10 +73,6 @@ all-pass (x ∷ l) t h =
     let a : t x ≡ true = h x (rw (eq-eqb x x refl)) in
     let b = all-pass l t (λ y m. h y (or-right (eqb y x) (member y l) m)) in
     rw a (omega arith)
-  where
-    or-right : (a b : Bool) → b ≡ true → a || b ≡ true
-    or-right true b e = refl
-    or-right false b e = e
 
 -- a list without repeats whose members are the numbers that pass, all of them below n, is as long as they are many
 pub length-members : (n : ℕ) (l : List ℕ) (t : ℕ → Bool) → Distinct l → ((i : ℕ) → member i l ≡ t i) → ((i : ℕ) → n ≤ i → t i ≡ false)

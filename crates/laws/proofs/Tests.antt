@@ -1,8 +1,10 @@
--- Laws of tests: two that pass together are equal, one that cannot pass fails, and both halves of `&&`.
+-- Laws of tests: two that pass together are equal, one that cannot pass fails, both halves of `&&`, and one that is counted.
 -- Cited by `likeness`, `index`, `lists`, `index_writer`, `candidates` and `search`.
 -- Assumes nothing.
 use mathlib.Core.Path.{_≡_, refl, sym, _∙_}
-use mathlib.Core.Bool.{Bool, true, false, _&&_, false≢true}
+use mathlib.Core.Bool.{Bool, true, false, cond, _&&_, _||_, false≢true}
+use Prim.Native.Nat.{ℕ, _≤_}
+use native.Mathlib.Omega.{arith}
 
 -- two tests that pass together are equal
 pub same-test : (a b : Bool) → (a ≡ true → b ≡ true) → (b ≡ true → a ≡ true) → a ≡ b
@@ -22,3 +24,12 @@ test-failed a e h = false≢true (sym e ∙ h)
 pub and-parts : (a b : Bool) → a && b ≡ true → (a ≡ true) × (b ≡ true)
 and-parts true b e = (refl, e)
 and-parts false b e = absurd (false≢true e)
+
+pub or-right : (a b : Bool) → b ≡ true → a || b ≡ true
+or-right true b e = refl
+or-right false b e = e
+
+-- what counts only where a test passes counts for at most itself
+pub cond-most : (b : Bool) (n : ℕ) → cond b n 0 ≤ n
+cond-most true n = omega arith
+cond-most false n = omega arith

@@ -4,8 +4,8 @@
 use mathlib.Core.Path.{_≡_, refl, sym, ap, subst, _∙_}
 use mathlib.Core.Logic.{⊎-elim}
 use mathlib.Core.Bool.{Bool, true, false, cond}
-use mathlib.Core.List.{List, [], _∷_, _++_, map}
-use Prim.Native.Nat.{ℕ, zero, suc, _≤_, _<_, min}
+use mathlib.Core.List.{List, _++_, map}
+use Prim.Native.Nat.{ℕ, _≤_, _<_, min}
 use native.Mathlib.Nat.{min-eq-left, min-eq-right, min-le-right}
 use native.Mathlib.Omega.{arith}
 use lib.ListN.{length, getD, take, drop, length-append, length-map, List·getD-append}
@@ -13,7 +13,7 @@ use lib.Seq.{length-take-le}
 use lib.Dec.{ltb, eqb}
 use borrow.Author.Tests.{le-ltb, ltb-false, eqb-true}
 use Rattle.laws.proofs.Order.{le-or-lt}
-use Rattle.laws.proofs.Images.{tabulate-of}
+use Rattle.laws.proofs.Images.{getD-map-lt, tabulate-of}
 use Rattle.names.specs.Features.{featuresOf}
 use Rattle.likeness.specs.Terms.{lowestTerms}
 use Rattle.words.specs.Words.{nameId, nameSize}
@@ -105,11 +105,6 @@ module _ (s : List ℕ) (m p q allowance : ℕ) (w : List ℕ) where
 
 -- ---- the columns' rows
 
-getD-map : {A : Type 0} (f : ℕ → A) (l : List ℕ) (k d : ℕ) (e : A) → k < length l → getD (map f l) k e ≡ f (getD l k d)
-getD-map f [] k d e h = absurd (omega arith)
-getD-map f (x ∷ l) zero d e h = refl
-getD-map f (x ∷ l) (suc k) d e h = getD-map f l k d e (omega arith)
-
 -- columns with what stands after them
 abbrev pub columnsThen : Columns → Columns → Columns
 columnsThen c x = record { ids = c .ids ++ x .ids; shared = c .shared ++ x .shared; sizes = c .sizes ++ x .sizes }
@@ -121,13 +116,13 @@ column-entry f places l rest k h =
     let a = length-append (map f places) l in
     List·getD-append (map f places ++ l) rest 0 k (let b : k < length (map f places ++ l) = omega arith in b)
     ∙ List·getD-append (map f places) l 0 k (let b : k < length (map f places) = omega arith in b)
-    ∙ getD-map f places k 0 0 h
+    ∙ getD-map-lt f places k 0 0 h
 
 -- columns that start with the places' rows have those rows
 pub columns-rows : (w query places : List ℕ) (c x : Columns) → rowsFrom (length places) (columnsThen (columnsOver (columnsOf w query places) c) x) ≡ rowsOf w query places
 columns-rows w query places c x =
     sym (tabulate-of (rowAt filled) (length places) noRow (rowsOf w query places) (length-map places (rowOf w query))
-    (λ k h. getD-map (rowOf w query) places k 0 noRow h ∙ sym (same k h)))
+    (λ k h. getD-map-lt (rowOf w query) places k 0 noRow h ∙ sym (same k h)))
   where
     filled : Columns
     filled = columnsThen (columnsOver (columnsOf w query places) c) x

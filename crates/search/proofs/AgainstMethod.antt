@@ -1,7 +1,7 @@
 -- The whole search, as the code has it, is the method's: sorted features change nothing, and the answers' table holds the rows.
 -- Cited by the proof of `run`.
 -- Assumes nothing.
-use mathlib.Core.Path.{_≡_, refl, sym, ap, ap₂, subst, _∙_}
+use mathlib.Core.Path.{_≡_, refl, sym, ap, ap₂, _∙_}
 use mathlib.Core.Logic.{_⊎_, ⊎-elim}
 use mathlib.Core.Bool.{Bool, true, false, cond, _&&_, true≢false}
 use mathlib.Core.List.{List, [], _∷_, _++_, map}
@@ -11,14 +11,13 @@ use lib.ListN.{length, getD, take, replicate, length-append, length-replicate}
 use lib.Seq.{take-append-seam}
 use lib.Dec.{leb, ltb}
 use borrow.Author.Tests.{le-leb, lt-ltb}
-use Rattle.laws.specs.Each.{Each}
 use Rattle.laws.specs.Sort.{insert, sortOf}
 use Rattle.laws.proofs.Lists.{getD-tabulate}
 use Rattle.laws.proofs.Below.{sum-below-ext}
 use Rattle.laws.proofs.Passing.{passing-ext, image-ext}
-use Rattle.laws.proofs.Members.{member-place, each-member, each-members}
+use Rattle.laws.proofs.Members.{each-of, each-member, each-members}
 use Rattle.laws.proofs.Order.{le-or-lt, eq-or-ne}
-use Rattle.laws.proofs.Sort.{sort-nil, sort-cons, insert-met, insert-passed, insert-swap, length-sort, member-sort, ascending-sort}
+use Rattle.laws.proofs.Sort.{insert-nil, sort-nil, sort-cons, insert-met, insert-passed, insert-swap, length-sort, member-sort, ascending-sort}
 use Rattle.likeness.specs.Measures.{goodMeasure, goodThreshold, isSimilar}
 use Rattle.likeness.proofs.Measures.{similar-none}
 use Rattle.names.specs.Names.{judgeOf}
@@ -37,10 +36,6 @@ use Rattle.sizes.proofs.Laws.{Query, listed-similar}
 use Rattle.sizes.proofs.Size.{asked-query}
 
 -- ---- sorted features change nothing
-
-insert-nil : (x : ℕ) → insert x [] ≡ x ∷ []
-unfolding insert
-insert-nil x = refl
 
 sort-image-insert : (g : ℕ → ℕ) (x : ℕ) (l : List ℕ) → sortOf (map g (insert x l)) ≡ insert (g x) (sortOf (map g l))
 sort-image-insert g x [] = ap (λ (r : List ℕ). sortOf (map g r)) (insert-nil x) ∙ sort-cons (g x) []
@@ -165,8 +160,5 @@ query-features s g b =
     record {
       some = (let h = size-within s g .0 in omega arith);
       distinct = distinct-features s;
-      small = each-of (λ (f : ℕ). f < featureSpan) (featuresOf s) (λ i h. feature-fits s b i);
+      small = each-of (λ (f : ℕ). f < featureSpan) (featuresOf s) 0 (λ i h. feature-fits s b i);
     }
-  where
-    each-of : (P : ℕ → Type 0) (l : List ℕ) → ((i : ℕ) → i < length l → P (getD l i 0)) → Each P l
-    each-of P l h = each-members P l (λ x m. let p = member-place x l m in subst P (p .2) (h (p .0) (p .1)))

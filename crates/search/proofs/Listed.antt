@@ -1,15 +1,16 @@
 -- The places that the method lists: which they are, in which order, and what their columns hold.
 -- Assumes nothing.
-use mathlib.Core.Path.{_≡_, refl, sym, ap, _∙_}
+use mathlib.Core.Path.{_≡_, sym, ap, _∙_}
 use mathlib.Core.Bool.{true}
-use mathlib.Core.List.{List, [], _∷_, _++_, map}
-use Prim.Native.Nat.{ℕ, zero, suc, _+_, _≤_, _<_}
+use mathlib.Core.List.{List, _++_, map}
+use Prim.Native.Nat.{ℕ, _+_, _≤_, _<_}
 use native.Mathlib.Omega.{arith}
 use lib.ListN.{length, getD, take, drop, length-map, List·getD-append}
 use lib.Seq.{take-append-seam, drop-append-seam}
 use Rattle.laws.specs.Lists.{member, Ascending}
 use Rattle.laws.specs.Below.{passingBelow}
 use Rattle.laws.proofs.Tests.{same-test}
+use Rattle.laws.proofs.Images.{getD-map-lt}
 use Rattle.laws.proofs.Passing.{passing-most, passing-member, member-passing, image-passing, ascending-passing}
 use Rattle.laws.proofs.Members.{member-map}
 use Rattle.words.specs.Words.{nameCount, nameId}
@@ -30,12 +31,7 @@ pub over-at : (f : ℕ → ℕ) (l s : List ℕ) (j : ℕ) → j < length l
     → getD (map f l ++ drop (length (map f l)) s) j 0 ≡ f (getD l j 0)
 over-at f l s j h =
     let n = length-map l f in
-    List·getD-append (map f l) (drop (length (map f l)) s) 0 j (omega arith) ∙ mapped f l j h
-  where
-    mapped : (f : ℕ → ℕ) (l : List ℕ) (j : ℕ) → j < length l → getD (map f l) j 0 ≡ f (getD l j 0)
-    mapped f [] j h = absurd (omega arith)
-    mapped f (x ∷ l) zero h = refl
-    mapped f (x ∷ l) (suc j) h = mapped f l j (omega arith)
+    List·getD-append (map f l) (drop (length (map f l)) s) 0 j (omega arith) ∙ getD-map-lt f l j 0 0 h
 
 -- ---- the places
 

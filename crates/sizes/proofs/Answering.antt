@@ -52,6 +52,10 @@ module _ (w : List ℕ) (good : Good w) (m p q : ℕ) (f : List ℕ) (a : Asked 
       (λ (e : nameSize w i ≡ y → ⊥). ap (λ (b : Bool). ltb i (nameCount w) && (b && listed w m p q f i)) (same-below y (nameSize w i) e))
       (eq-or-ne (nameSize w i) y)
 
+  -- past the last name there is no answer
+  past-names : (y i : ℕ) → nameCount w ≤ i → answeredAt w m p q f y i ≡ false
+  past-names y i h = unfold answeredAt in (and-false-left (ltb i (nameCount w)) (ltb (nameSize w i) y && listed w m p q f i) (le-ltb i (nameCount w) h))
+
   -- a size that isn't searched adds no answer
   pub answers-skipped : (y : ℕ) → ((i : ℕ) → i < nameCount w → nameSize w i ≡ y → listed w m p q f i ≡ false)
       → answersTable w m p q f y ≡ answersTable w m p q f (y + 1)
@@ -60,9 +64,6 @@ module _ (w : List ℕ) (good : Good w) (m p q : ℕ) (f : List ℕ) (a : Asked 
       tabulate-ext (λ (i : ℕ). cond (answeredAt w m p q f y i) (sharedWith w f i) 0) (λ (i : ℕ). cond (answeredAt w m p q f (y + 1) i) (sharedWith w f i) 0) mostNames
       (λ i h. ap (λ (b : Bool). cond b (sharedWith w f i) 0) (sym (by-place y i n (le-or-lt (nameCount w) i))))
     where
-      past-names : (y i : ℕ) → nameCount w ≤ i → answeredAt w m p q f y i ≡ false
-      past-names y i h = unfold answeredAt in (and-false-left (ltb i (nameCount w)) (ltb (nameSize w i) y && listed w m p q f i) (le-ltb i (nameCount w) h))
-
       by-place : (y i : ℕ) → ((j : ℕ) → j < nameCount w → nameSize w j ≡ y → listed w m p q f j ≡ false) → (nameCount w ≤ i) ⊎ (i < nameCount w)
           → answeredAt w m p q f (y + 1) i ≡ answeredAt w m p q f y i
       by-place y i n c =
@@ -125,9 +126,6 @@ module _ (w : List ℕ) (good : Good w) (m p q : ℕ) (f : List ℕ) (a : Asked 
         shared-here i s = unfold sharedWith in (ap (λ (z : ℕ). heldBy (listsFor w z f) (nameId w i)) s)
     at-place i h false e = ap (λ (b : Bool). cond b (sharedWith w f i) 0) (by-place (le-or-lt (nameCount w) i))
       where
-        past-names : (y i : ℕ) → nameCount w ≤ i → answeredAt w m p q f y i ≡ false
-        past-names y i h = unfold answeredAt in (and-false-left (ltb i (nameCount w)) (ltb (nameSize w i) y && listed w m p q f i) (le-ltb i (nameCount w) h))
-
         not-listed : i < nameCount w → nameSize w i ≡ y → listed w m p q f i ≡ false
         not-listed k s =
             listed-remains i s

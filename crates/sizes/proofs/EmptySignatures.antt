@@ -14,7 +14,7 @@ use borrow.Author.Tests.{lt-ltb, le-ltb, ltb-true}
 use Rattle.laws.specs.Lists.{Ascending, tabulate, countOf, sumOf}
 use Rattle.laws.specs.Below.{sumBelow, countBelow}
 use Rattle.laws.specs.Sort.{sortOf}
-use Rattle.laws.proofs.Lists.{length-tabulate, getD-tabulate, tabulate-ext}
+use Rattle.laws.proofs.Lists.{length-nil, length-tabulate, getD-tabulate, tabulate-ext}
 use Rattle.laws.proofs.Below.{sum-below-ext, sum-below-most, and-false-right}
 use Rattle.laws.proofs.Ascending.{ascending-at}
 use Rattle.laws.proofs.BinarySearch.{Falling, falling-count, count-index}
@@ -66,10 +66,6 @@ first-below b l a k h =
     let c = count-index (λ (z : ℕ). ltb z b) l in
     ltb-true (getD l k 0) b (falling-count t (length l) falls .below k (omega arith))
 
-none-of-length : (l : List ℕ) → length l ≡ 0 → l ≡ []
-none-of-length [] e = refl
-none-of-length (x ∷ l) e = absurd (omega arith)
-
 -- lists whose first n are empty have no posting there
 no-postings : (n : ℕ) (ls : List (List ℕ)) → ((k : ℕ) → k < n → getD ls k [] ≡ []) → sumOf (map length (take n ls)) ≡ 0
 unfolding sumOf
@@ -112,7 +108,7 @@ module _ (w : List ℕ) (y : ℕ) (f : List ℕ) (a : Asked f) (t : ℕ) (some :
       let q = first-below 256 keys (small-ascending w y f (asked-query f a) short) k (omega arith) in
       let v = kth-key w y f (asked-query f a) short k (omega arith) in
       let z = v .2 in
-      v .1 ∙ none-of-length (listIn w y (getD (sortOf f) (getD keys k 0 % 256) 0)) (omega arith)
+      v .1 ∙ length-nil (listIn w y (getD (sortOf f) (getD keys k 0 % 256) 0)) (omega arith)
 
   gone : (d id : ℕ) → remains (listsFor w y f) t d id ≡ false
   gone d id = unmet (listsFor w y f) t id (no-holder (signatures (length (listsFor w y f)) t) (listsFor w y f) id empty) d

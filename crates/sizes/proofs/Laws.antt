@@ -14,6 +14,7 @@ use Rattle.laws.specs.Each.{Each}
 use Rattle.laws.specs.Below.{sumBelow, countBelow}
 use Rattle.laws.specs.Sort.{sortOf}
 use Rattle.laws.proofs.Lists.{count-le, count-ext}
+use Rattle.laws.proofs.Images.{count-map}
 use Rattle.laws.proofs.Members.{each-member}
 use Rattle.laws.proofs.Sort.{count-sort, length-sort}
 use Rattle.laws.proofs.Tests.{same-test}
@@ -32,12 +33,6 @@ use Rattle.candidates.proofs.Candidates.{remains-end}
 use Rattle.sizes.specs.Method.{orderedFor, listsFor, sharedWith, listed, answersOf}
 
 -- ---- the order of the query's features changes no count
-
--- counting over a mapped list
-pub count-map : {A B : Type 0} (t : B → Bool) (f : A → B) (l : List A) → countOf t (map f l) ≡ countOf (λ (x : A). t (f x)) l
-unfolding countOf
-count-map t f [] = refl
-count-map t f (x ∷ l) = ap (λ (n : ℕ). cond (t (f x)) 1 0 + n) (count-map t f l)
 
 -- a feature is told from its key
 feature-of : (n f : ℕ) → f < featureSpan → keyOf n f % featureSpan ≡ f

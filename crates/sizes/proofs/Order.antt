@@ -3,19 +3,19 @@
 -- Assumes nothing.
 use mathlib.Core.Path.{_≡_, refl, sym, ap, ap₂, _∙_}
 use mathlib.Core.Logic.{⊎-elim}
-use mathlib.Core.Bool.{Bool, true, false}
-use mathlib.Core.List.{List, [], _∷_, map}
-use Prim.Native.Nat.{ℕ, zero, suc, _+_, _*_, _/_, _%_, _≤_, _<_}
+use mathlib.Core.Bool.{true}
+use mathlib.Core.List.{List, [], map}
+use Prim.Native.Nat.{ℕ, _+_, _*_, _/_, _%_, _≤_, _<_}
 use native.Mathlib.Omega.{arith}
 use lib.ListN.{length, getD, length-map}
 use Rattle.laws.specs.Lists.{member, Distinct, Ascending, tabulate}
-use Rattle.laws.specs.Each.{Each}
 use Rattle.laws.specs.Sort.{sortOf}
 use Rattle.laws.proofs.Tests.{same-test}
 use Rattle.laws.proofs.Lists.{length-tabulate, getD-tabulate, distinct-tabulate}
 use Rattle.laws.proofs.Order.{le-or-lt}
-use Rattle.laws.proofs.Members.{member-head, member-tail, member-cases, member-nil, member-at, member-place, member-map, member-map-place, distinct-map, each-member}
-use Rattle.laws.proofs.Sort.{above-members, ascending-nil, ascending-cons, ascending-above, ascending-rest, above-member, ascending-sort, ascending-unique, member-sort, length-sort}
+use Rattle.laws.proofs.Members.{member-at, member-place, member-map, member-map-place, distinct-map, each-member}
+use Rattle.laws.proofs.Sort.{ascending-sort, ascending-unique, member-sort, length-sort}
+use Rattle.laws.proofs.Images.{getD-map-lt, ascending-map-on}
 use Rattle.laws.proofs.Ascending.{ascending-at}
 use Rattle.words.specs.Words.{featureSpan, keyOf}
 use Rattle.lists.specs.Lists.{listIn}
@@ -24,24 +24,6 @@ use Rattle.sizes.specs.Tables.{smallKey}
 use Rattle.sizes.proofs.Laws.{Query}
 
 -- ---- plain lists
-
-ascending-map-on : (f : ℕ → ℕ) (l : List ℕ) → ((x y : ℕ) → member x l ≡ true → member y l ≡ true → x < y → f x < f y) → Ascending l → Ascending (map f l)
-ascending-map-on f [] h a = ascending-nil
-ascending-map-on f (x ∷ l) h a =
-    ascending-cons (f x) (map f l)
-    (above-members (f x) (map f l)
-    (λ z m.
-    let p = member-map-place f z l m in
-    let b = above-member x l (ascending-above x l a) (p .0) (p .1) in
-    let r = h x (p .0) (member-head x l) (member-tail x (p .0) l (p .1)) b in
-    let e = p .2 in
-    omega arith))
-    (ascending-map-on f l (λ u v m n k. h u v (member-tail x u l m) (member-tail x v l n) k) (ascending-rest x l a))
-
-getD-map-lt : {A B : Type 0} (f : A → B) (l : List A) (k : ℕ) (d : A) (e : B) → k < length l → getD (map f l) k e ≡ f (getD l k d)
-getD-map-lt f [] k d e h = absurd (omega arith)
-getD-map-lt f (x ∷ l) zero d e h = refl
-getD-map-lt f (x ∷ l) (suc k) d e h = getD-map-lt f l k d e (omega arith)
 
 -- a value of a table has its place
 tabulate-place : (f : ℕ → ℕ) (n z : ℕ) → member z (tabulate f n) ≡ true → (j : ℕ) × (j < n) × (f j ≡ z)

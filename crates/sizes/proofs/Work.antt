@@ -18,6 +18,7 @@ use Rattle.laws.specs.Below.{sumBelow, countBelow}
 use Rattle.laws.specs.Filter.{filterOf}
 use Rattle.laws.specs.Sort.{sortOf}
 use Rattle.laws.proofs.Members.{member-head, member-tail, member-map-place, each-member, each-members}
+use Rattle.laws.proofs.Images.{count-map}
 use Rattle.laws.proofs.Sums.{sum-ext, sum-map, sum-filter, sum-sort, least-sum}
 use Rattle.laws.proofs.Below.{and-left, and-right, and-both, and-false-right, count-below-mono, count-below-more, count-below-most, sum-below-le, sum-below-most, sum-below-swap, sum-below-times, sum-below-ext}
 use Rattle.laws.proofs.Order.{eq-or-ne}
@@ -36,7 +37,7 @@ use Rattle.names.specs.Features.{mostFeatures}
 use Rattle.candidates.specs.Method.{signatures, signaturePostings, remains, laterCount}
 use Rattle.candidates.proofs.Candidates.{remains-less}
 use Rattle.sizes.specs.Method.{namesOf, orderedFor, listsFor, remaining, touchesAt, sizesEnd, touchesOfSize, touchesOf}
-use Rattle.sizes.proofs.Laws.{count-map, count-ordered, length-lists, Query}
+use Rattle.sizes.proofs.Laws.{count-ordered, length-lists, Query}
 
 -- ---- the names of one size
 

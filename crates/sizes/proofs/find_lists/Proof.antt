@@ -1,8 +1,8 @@
 -- `find_lists` meets its contract: the size's rows are found once; after j turns, the starts and the keys of the first j features stand in front.
 use mathlib.Core.Path.{_≡_, refl, sym, ap, ap₂, _∙_}
-use mathlib.Core.Bool.{Bool, true, false, cond}
+use mathlib.Core.Bool.{cond}
 use mathlib.Core.List.{List}
-use Prim.Native.Nat.{ℕ, _+_, _*_, _≤_, _<_, _-_}
+use Prim.Native.Nat.{ℕ, _+_, _*_, _≤_, _-_}
 use native.Mathlib.Omega.{arith}
 use borrow.Author.Needs.{needs}
 use lib.Dec.{ltb}
@@ -10,6 +10,7 @@ use lib.ListN.{length, getD, set, length-set}
 use Rattle.laws.specs.Below.{sumBelow}
 use Rattle.laws.proofs.Tables.{tableOver, over-nil, over-step}
 use Rattle.laws.proofs.Below.{count-below-most, sum-below-step}
+use Rattle.laws.proofs.Tests.{cond-most}
 use Rattle.lists.specs.Lists.{listIn}
 use Rattle.lists.proofs.Spans.{span-count}
 use Rattle.words.specs.Words.{rowStart}
@@ -26,10 +27,6 @@ Inv-loop words features size starts₀ keys₀ rows first filled₀ j₀ starts 
 
 abbrev μ-loop : tie.MeasureT-loop
 μ-loop words features size starts₀ keys₀ rows first filled₀ j₀ starts keys filled j = length features - j
-
-at-most : (b : Bool) → cond b 1 0 ≤ 1
-at-most true = omega arith
-at-most false = omega arith
 
 -- the list's length
 counts : (c : tie.After-place-among Inv-loop μ-loop) → (c .place-among .result .count ≡ length (listIn (c .before .before .before .before .before .before .before .before .before .before .before .args .words .now) (c .before .before .before .before .before .before .before .before .before .before .before .args .size) (getD (c .before .before .before .before .before .before .before .before .before .before .before .args .features .now) (c .before .before .before .loop .j) 0))) × (c .place-among .result .count ≤ 256)
@@ -100,7 +97,7 @@ one c =
     let j = c .before .before .before .before .loop .j in
     let k : c .before .place-among .result .count * 256 + j ≡ smallKey (b .args .words .now) (b .args .size) (b .args .features .now) j = unfold smallKey in (ap (λ (n : ℕ). n * 256 + j) (counts (c .before) .0)) in
     let e : c .one-if .result ≡ cond (ltb 255 (smallKey (b .args .words .now) (b .args .size) (b .args .features .now) j)) 1 0 = c .one-if .ensures ∙ ap (λ (v : ℕ). cond (ltb 255 v) 1 0) k in
-    (e, rw e (at-most (ltb 255 (smallKey (b .args .words .now) (b .args .size) (b .args .features .now) j))))
+    (e, rw e (cond-most (ltb 255 (smallKey (b .args .words .now) (b .args .size) (b .args .features .now) j)) 1))
 
 add-filled : tie.Need-add-filled Inv-loop μ-loop
 add-filled c = let l = c .before .before .before .before .loop .inv .6 in let o = one c .1 in omega arith
