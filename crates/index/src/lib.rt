@@ -34,7 +34,7 @@ fn head_good(words: &[u32]) -> bool
     if MOST_POSTINGS < postings {
         return false;
     }
-    words::row_start(words, words::row_count(words)) + postings <= n
+    words::postings_start(words) + postings <= n
 }
 
 fn name_good(words: &[u32], i: usize) -> bool
@@ -163,7 +163,7 @@ fn list_good(words: &[u32], guesses: &[u8], r: usize, tally: &mut [u32]) -> bool
     ensures { λ v. ⌜ (v ≡ true → Tallied (now (words .entry)) (r + 1) (now (tally .exit))) ⌝ }
 {
     let names = words::name_count(words);
-    let first = words::row_start(words, words::row_count(words)) + words::row_place(words, r);
+    let first = words::postings_start(words) + words::row_place(words, r);
     let count = words::row_length(words, r);
     let size = words::row_size(words, r);
     let mut k: usize = 0;

@@ -171,9 +171,9 @@ fn put_head(names: &[u32], d: usize, p: usize, words: &mut [u32])
     let n = names.len();
     let end = words::HEAD_WIDTH + n;
     put_names(names, &mut words[words::HEAD_WIDTH..end]);
-    words[0] = n as u32;
-    words[1] = d as u32;
-    words[2] = p as u32;
+    words[words::NAME_COUNT_AT] = n as u32;
+    words[words::ROW_COUNT_AT] = d as u32;
+    words[words::POSTING_COUNT_AT] = p as u32;
 }
 
 // Writes the index and sets what is beyond it, or sets every word where it does not fit. Answers whether it fits.

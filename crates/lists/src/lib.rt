@@ -74,7 +74,7 @@ pub fn place_for_good(words: &[u32], size: u32, feature: u64) -> Place
     ensures { λ p. ⌜ (p .start ≡ spanIn (now (words .entry)) size feature .start) × (p .count ≡ spanIn (now (words .entry)) size feature .count) ⌝ }
 {
     let rows = rows_of_size(words, size);
-    let first = words::row_start(words, words::row_count(words));
+    let first = words::postings_start(words);
     place_among(words, rows, first, size, feature)
 }
 

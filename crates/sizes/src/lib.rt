@@ -51,7 +51,7 @@ fn find_lists(
     ensures { λ r. ⌜ r ≡ filledOf (now (words .entry)) size (now (features .entry)) (length (now (features .entry))) ⌝ }
 {
     let rows = lists::rows_of_size(words, size);
-    let first = words::row_start(words, words::row_count(words));
+    let first = words::postings_start(words);
     let mut filled = 0;
     let mut j = 0;
     while j < features.len() {

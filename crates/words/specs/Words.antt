@@ -12,17 +12,27 @@ use lib.ListN.{length, getD, take, drop}
 abbrev pub headWidth : ℕ
 headWidth = 3
 
+-- which of them is which
+abbrev pub nameCountAt : ℕ
+nameCountAt = 0
+
+abbrev pub rowCountAt : ℕ
+rowCountAt = 1
+
+abbrev pub postingCountAt : ℕ
+postingCountAt = 2
+
 -- N, how many names
 abbrev pub nameCount : List ℕ → ℕ
-nameCount w = getD w 0 0
+nameCount w = getD w nameCountAt 0
 
 -- D, how many rows
 abbrev pub rowCount : List ℕ → ℕ
-rowCount w = getD w 1 0
+rowCount w = getD w rowCountAt 0
 
 -- P, how many postings
 abbrev pub postingCount : List ℕ → ℕ
-postingCount w = getD w 2 0
+postingCount w = getD w postingCountAt 0
 
 -- ---- a name: id × 256 + size
 

@@ -2,11 +2,18 @@
 ghost use mathlib.Core.Path.{_≡_};
 ghost use Prim.Native.Nat.{_+_, _*_, _^_, _≤_, _<_};
 ghost use lib.ListN.{length, getD};
-ghost use Rattle.words.specs.Words.{headWidth, nameCount, rowCount, postingCount, nameWidth, nameStart, nameId, nameSize, rowWidth, rowStart, rowSize, rowFeature, rowPlace, rowLength, rowKey, partRows, partFeature, partPlace, partLength};
+ghost use Rattle.words.specs.Words.{headWidth, nameCount, rowCount, postingCount, nameWidth, nameStart, nameId, nameSize, rowWidth, rowStart, rowSize, rowFeature, rowPlace, rowLength, rowKey, postingsStart, partRows, partFeature, partPlace, partLength};
 
-// How many words the head has, a name, and the sizes that a name's word has room for.
+// How many words the head has, and which of them is which.
 pub const HEAD_WIDTH: usize = 3;
 
+pub const NAME_COUNT_AT: usize = 0;
+
+pub const ROW_COUNT_AT: usize = 1;
+
+pub const POSTING_COUNT_AT: usize = 2;
+
+// How many words a name has, and the sizes that its word has room for.
 pub const NAME_WIDTH: usize = 1;
 
 pub const SIZE_ROOM: u32 = 256;
@@ -36,7 +43,7 @@ pub fn name_count(words: &[u32]) -> usize
     requires { ⌜ headWidth ≤ length (now words) ⌝ }
     ensures { λ r. ⌜ (r ≡ nameCount (now (words .entry))) × (r < 4294967296) ⌝ }
 {
-    wide(words[0])
+    wide(words[NAME_COUNT_AT])
 }
 
 // D, how many rows.
@@ -44,7 +51,7 @@ pub fn row_count(words: &[u32]) -> usize
     requires { ⌜ headWidth ≤ length (now words) ⌝ }
     ensures { λ r. ⌜ (r ≡ rowCount (now (words .entry))) × (r < 4294967296) ⌝ }
 {
-    wide(words[1])
+    wide(words[ROW_COUNT_AT])
 }
 
 // P, how many postings.
@@ -52,7 +59,7 @@ pub fn posting_count(words: &[u32]) -> usize
     requires { ⌜ headWidth ≤ length (now words) ⌝ }
     ensures { λ r. ⌜ (r ≡ postingCount (now (words .entry))) × (r < 4294967296) ⌝ }
 {
-    wide(words[2])
+    wide(words[POSTING_COUNT_AT])
 }
 
 // The id of name i.
@@ -71,12 +78,20 @@ pub fn name_size(words: &[u32], i: usize) -> u32
     words[NAMES_START + NAME_WIDTH * i] % SIZE_ROOM
 }
 
-// Where row r starts; with D for r, where the postings start.
+// Where row r starts; with D for r, where the rows end.
 pub fn row_start(words: &[u32], r: usize) -> usize
     requires { ⌜ (headWidth ≤ length (now words)) × (rowWidth * r < 2 ^ 63) ⌝ }
     ensures { λ v. ⌜ (v ≡ rowStart (now (words .entry)) r) × (v ≤ nameStart 4294967295 + rowWidth * r) ⌝ }
 {
-    NAMES_START + NAME_WIDTH * wide(words[0]) + ROW_WIDTH * r
+    NAMES_START + NAME_WIDTH * wide(words[NAME_COUNT_AT]) + ROW_WIDTH * r
+}
+
+// Where the postings start.
+pub fn postings_start(words: &[u32]) -> usize
+    requires { ⌜ headWidth ≤ length (now words) ⌝ }
+    ensures { λ v. ⌜ (v ≡ postingsStart (now (words .entry))) × (v ≤ nameStart 4294967295 + rowWidth * 4294967295) ⌝ }
+{
+    row_start(words, row_count(words))
 }
 
 // Word k of row r.

@@ -26,45 +26,38 @@ in-row s = row-in (s .args .words .now) (s .args .r) (head-facts _ (s .pre .0 .n
 name-count-requires : tie.Need-name-count-requires Inv-loop μ-loop
 name-count-requires c κs = head-facts _ (c .before .before .before .pre .0 .named .head) .three
 
-row-count-requires : tie.Need-row-count-requires Inv-loop μ-loop
-row-count-requires c κs = head-facts _ (c .before .before .before .before .pre .0 .named .head) .three
-
-row-start-requires : tie.Need-row-start-requires Inv-loop μ-loop
-row-start-requires c κs =
-    let n = c .row-count .ensures .1 in
-    (head-facts _ (c .before .before .before .before .before .pre .0 .named .head) .three, omega arith)
+postings-start-requires : tie.Need-postings-start-requires Inv-loop μ-loop
+postings-start-requires c κs = head-facts _ (c .before .before .before .before .pre .0 .named .head) .three
 
 row-place-requires : tie.Need-row-place-requires Inv-loop μ-loop
-row-place-requires c κs = in-row (c .before .before .before .before .before .before)
+row-place-requires c κs = in-row (c .before .before .before .before .before)
 
 add-first : tie.Need-add-first Inv-loop μ-loop
 add-first c =
-    let n = c .before .before .row-count .ensures .1 in
-    let s = c .before .row-start .ensures .1 in
+    let s = c .before .postings-start .ensures .1 in
     let p = c .row-place .ensures .1 in
     omega arith
 
 row-length-requires : tie.Need-row-length-requires Inv-loop μ-loop
-row-length-requires c κs = in-row (c .before .before .before .before .before .before .before)
+row-length-requires c κs = in-row (c .before .before .before .before .before .before)
 
 row-size-requires : tie.Need-row-size-requires Inv-loop μ-loop
-row-size-requires c κs = in-row (c .before .before .before .before .before .before .before .before)
+row-size-requires c κs = in-row (c .before .before .before .before .before .before .before)
 
 loop-holds : tie.Need-loop-holds Inv-loop μ-loop
-loop-holds c = (list-start _ _ _ (c .before .before .before .before .before .before .before .before .before .pre .4), refl)
+loop-holds c = (list-start _ _ _ (c .before .before .before .before .before .before .before .before .pre .4), refl)
 
 -- the words, the row and what they are known to be, from the loop's head
 abbrev start : tie.At-loop Inv-loop μ-loop → tie.Start Inv-loop μ-loop
-start l = l .before .before .before .before .before .before .before .before .before .before
+start l = l .before .before .before .before .before .before .before .before .before
 
 -- where the row's list starts
 abbrev first : tie.At-loop Inv-loop μ-loop → ℕ
-first l = l .before .before .before .before .row-start .result + l .before .before .before .row-place .result
+first l = l .before .before .before .before .postings-start .result + l .before .before .before .row-place .result
 
 first-at : (l : tie.At-loop Inv-loop μ-loop) → first l ≡ listStart (start l .args .words .now) (start l .args .r)
 first-at l =
-    let n = l .before .before .before .before .before .row-count .ensures .0 in
-    let s = l .before .before .before .before .row-start .ensures .0 in
+    let s = l .before .before .before .before .postings-start .ensures .0 in
     let p = l .before .before .before .row-place .ensures .0 in
     omega arith
 
@@ -145,7 +138,7 @@ step c =
     let r = s .args .r in
     let n = l .before .before .row-length .ensures .0 in
     let t = c .before .before .before .before .loop-test .taken in
-    let m = l .before .before .before .before .before .before .name-count .ensures .0 in
+    let m = l .before .before .before .before .before .name-count .ensures .0 in
     let x = l .loop .inv .1 in
     let long = s .pre .3 in
     let a = read l (l .loop .k) in
@@ -173,7 +166,7 @@ returns-2 c =
     let s = start l in
     let n = l .before .before .row-length .ensures .0 in
     let t = c .before .before .before .before .loop-test .taken in
-    let m = l .before .before .before .before .before .before .name-count .ensures .0 in
+    let m = l .before .before .before .before .before .name-count .ensures .0 in
     let f = found (c .before) in
     (sym (list-unnamed (s .args .words .now) (s .args .r) (l .loop .k) (omega arith) (omega arith)), λ e. absurd (false≢true e))
 
@@ -192,7 +185,7 @@ add-tally c =
     let h = step (c .before) .1 in
     let l = c .before .before .before .before .before .before in
     let r = start l .pre .2 in
-    omega (arith, l .before .before .before .before .before .before .before .before .before .shared-slice-known .given 1)
+    omega (arith, l .before .before .before .before .before .before .before .before .shared-slice-known .given 1)
 
 slice-write-tally : tie.Need-slice-write-tally Inv-loop μ-loop
 slice-write-tally c = step (c .before) .0
@@ -225,8 +218,7 @@ list-good-spec =
     Inv-loop
     μ-loop
     name-count-requires
-    row-count-requires
-    row-start-requires
+    postings-start-requires
     row-place-requires
     add-first
     row-length-requires

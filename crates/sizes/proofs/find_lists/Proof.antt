@@ -13,8 +13,7 @@ use Rattle.laws.proofs.Below.{count-below-most, sum-below-step}
 use Rattle.laws.proofs.Tests.{cond-most}
 use Rattle.lists.specs.Lists.{listIn}
 use Rattle.lists.proofs.Spans.{span-count}
-use Rattle.words.specs.Words.{rowStart}
-use Rattle.index.proofs.Laws.{good-three, good-within, good-names-most}
+use Rattle.index.proofs.Laws.{good-three, good-names-most}
 use Rattle.sizes.specs.Tables.{startOf, smallKey, filledOf}
 use Rattle.sizes.proofs.Work.{list-length}
 use Rattle.sizes.proofs.find_lists.Statement.{statement}
@@ -29,9 +28,9 @@ abbrev μ-loop : tie.MeasureT-loop
 μ-loop words features size starts₀ keys₀ rows first filled₀ j₀ starts keys filled j = length features - j
 
 -- the list's length
-counts : (c : tie.After-place-among Inv-loop μ-loop) → (c .place-among .result .count ≡ length (listIn (c .before .before .before .before .before .before .before .before .before .before .before .args .words .now) (c .before .before .before .before .before .before .before .before .before .before .before .args .size) (getD (c .before .before .before .before .before .before .before .before .before .before .before .args .features .now) (c .before .before .before .loop .j) 0))) × (c .place-among .result .count ≤ 256)
+counts : (c : tie.After-place-among Inv-loop μ-loop) → (c .place-among .result .count ≡ length (listIn (c .before .before .before .before .before .before .before .before .before .before .args .words .now) (c .before .before .before .before .before .before .before .before .before .before .args .size) (getD (c .before .before .before .before .before .before .before .before .before .before .args .features .now) (c .before .before .before .loop .j) 0))) × (c .place-among .result .count ≤ 256)
 counts c =
-    let b = c .before .before .before .before .before .before .before .before .before .before .before in
+    let b = c .before .before .before .before .before .before .before .before .before .before in
     let f = getD (b .args .features .now) (c .before .before .before .loop .j) 0 in
     let e = c .place-among .ensures .1 ∙ span-count (b .args .words .now) (b .pre .0) (b .args .size) f in
     let l = list-length (b .args .words .now) (b .pre .0) (b .args .size) f in
@@ -42,19 +41,12 @@ counts c =
 rows-of-size-requires : tie.Need-rows-of-size-requires Inv-loop μ-loop
 rows-of-size-requires c κs = c .before .before .before .before .pre .0
 
-row-count-requires : tie.Need-row-count-requires Inv-loop μ-loop
-row-count-requires c κs = good-three _ (c .before .before .before .before .before .pre .0)
-
-row-start-requires : tie.Need-row-start-requires Inv-loop μ-loop
-row-start-requires c κs =
-    let b = c .before .before .before .before .before .before in
-    let w = good-within (b .args .words .now) (b .pre .0) in
-    let n = c .row-count .ensures .0 in
-    (good-three _ (b .pre .0), omega arith)
+postings-start-requires : tie.Need-postings-start-requires Inv-loop μ-loop
+postings-start-requires c κs = good-three _ (c .before .before .before .before .before .pre .0)
 
 loop-holds : tie.Need-loop-holds Inv-loop μ-loop
 loop-holds c =
-    let b = c .before .before .before .before .before .before .before in
+    let b = c .before .before .before .before .before .before in
     (omega arith, refl, refl, over-nil (startOf (b .args .words .now) (b .args .size) (b .args .features .now)) (b .args .starts .now), over-nil (smallKey (b .args .words .now) (b .args .size) (b .args .features .now)) (b .args .keys .now), unfold filledOf sumBelow in refl, omega arith)
 
 mul-place-among : tie.Need-mul-place-among Inv-loop μ-loop
@@ -65,9 +57,8 @@ shared-slice-read-place-among c = omega arith
 
 place-among-requires : tie.Need-place-among-requires Inv-loop μ-loop
 place-among-requires c κs =
-    let b = c .before .before .before .before .before .before .before .before .before .before in
-    let n = c .before .before .before .before .row-count .ensures .0 in
-    (b .pre .0, c .before .before .before .before .before .rows-of-size .ensures .words, c .before .before .before .row-start .ensures .0 ∙ ap (rowStart (b .args .words .now)) n)
+    let b = c .before .before .before .before .before .before .before .before .before in
+    (b .pre .0, c .before .before .before .before .rows-of-size .ensures .words, c .before .before .before .postings-start .ensures .0)
 
 mul-key : tie.Need-mul-key Inv-loop μ-loop
 mul-key c = let n = counts c .1 in omega arith
@@ -91,9 +82,9 @@ one-if-requires : tie.Need-one-if-requires Inv-loop μ-loop
 one-if-requires c κs = search needs
 
 -- a list with ids counts for one
-one : (c : tie.After-one-if Inv-loop μ-loop) → (c .one-if .result ≡ cond (ltb 255 (smallKey (c .before .before .before .before .before .before .before .before .before .before .before .before .args .words .now) (c .before .before .before .before .before .before .before .before .before .before .before .before .args .size) (c .before .before .before .before .before .before .before .before .before .before .before .before .args .features .now) (c .before .before .before .before .loop .j))) 1 0) × (c .one-if .result ≤ 1)
+one : (c : tie.After-one-if Inv-loop μ-loop) → (c .one-if .result ≡ cond (ltb 255 (smallKey (c .before .before .before .before .before .before .before .before .before .before .before .args .words .now) (c .before .before .before .before .before .before .before .before .before .before .before .args .size) (c .before .before .before .before .before .before .before .before .before .before .before .args .features .now) (c .before .before .before .before .loop .j))) 1 0) × (c .one-if .result ≤ 1)
 one c =
-    let b = c .before .before .before .before .before .before .before .before .before .before .before .before in
+    let b = c .before .before .before .before .before .before .before .before .before .before .before in
     let j = c .before .before .before .before .loop .j in
     let k : c .before .place-among .result .count * 256 + j ≡ smallKey (b .args .words .now) (b .args .size) (b .args .features .now) j = unfold smallKey in (ap (λ (n : ℕ). n * 256 + j) (counts (c .before) .0)) in
     let e : c .one-if .result ≡ cond (ltb 255 (smallKey (b .args .words .now) (b .args .size) (b .args .features .now) j)) 1 0 = c .one-if .ensures ∙ ap (λ (v : ℕ). cond (ltb 255 v) 1 0) k in
@@ -110,7 +101,7 @@ loop-less c = omega arith
 
 loop-again : tie.Need-loop-again Inv-loop μ-loop
 loop-again c =
-    let b = c .before .before .before .before .before .before .before .before .before .before .before .before in
+    let b = c .before .before .before .before .before .before .before .before .before .before .before in
     let l = c .before .before .before .before .loop in
     let j = l .j in
     let st = startOf (b .args .words .now) (b .args .size) (b .args .features .now) in
@@ -135,7 +126,7 @@ same-length-2 c = c .before .loop .inv .2
 
 returns : tie.Need-returns Inv-loop μ-loop
 returns c =
-    let b = c .before .before .before .before .before .before .before .before .before in
+    let b = c .before .before .before .before .before .before .before .before in
     let l = c .before .loop in
     let e : l .j ≡ length (b .args .features .now) = omega arith in (
       (
@@ -152,8 +143,7 @@ find-lists-spec =
     Inv-loop
     μ-loop
     rows-of-size-requires
-    row-count-requires
-    row-start-requires
+    postings-start-requires
     loop-holds
     mul-place-among
     shared-slice-read-place-among
