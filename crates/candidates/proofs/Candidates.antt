@@ -1,5 +1,5 @@
 -- Laws of the candidates of one size, on plain lists: who remains after d later features, and who is left at the end.
--- Cited by the laws of the search and by the proofs of the code.
+-- Cited by Counts.antt and by the laws of `sizes`.
 -- Assumes nothing.
 use mathlib.Core.Path.{_≡_, refl, sym, ap, ap₂, _∙_}
 use mathlib.Core.Bool.{Bool, true, false, cond, _&&_}

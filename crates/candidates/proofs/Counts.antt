@@ -1,4 +1,4 @@
--- Laws of the counts of all names: one list more, one later feature more, and how many remain. Cited by the proofs of the phases.
+-- Laws of the counts of all names: one list more, one later feature more, and how many remain. Cited by the proofs of the phases and by `sizes`.
 -- Assumes nothing.
 use mathlib.Core.Path.{_≡_, refl, sym, ap, ap₂, _∙_}
 use mathlib.Core.Logic.{_⊎_, ⊎-elim}

@@ -1,4 +1,5 @@
--- Laws of the test of each candidate against one later list: what the tables hold after k candidates. Cited by the proof of `sift`.
+-- Laws of the test of each candidate against one later list: what the tables hold after k candidates. Cited by the proofs of `sift` and `tally`
+-- and by Places.antt.
 -- Assumes nothing.
 use mathlib.Core.Path.{_≡_, refl, sym, ap, ap₂, _∙_}
 use mathlib.Core.Logic.{_⊎_, ⊎-elim}

@@ -1,5 +1,5 @@
 -- Laws of hexadecimal lines: the pair at a place, one turn of the scan, and both ways between bytes and their line.
--- Cited by the proofs of the crate and by `fields`.
+-- Cited by the proofs of the crate and by `fields` and `answers`.
 -- Assumes nothing.
 use mathlib.Core.Path.{_≡_, refl, sym, ap, _∙_}
 use mathlib.Core.Bool.{true, false, _&&_, false≢true, and-false}

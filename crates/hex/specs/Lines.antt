@@ -1,4 +1,4 @@
--- Hexadecimal lines: bytes as pairs of upper-case digits, then one line feed. Cited by the contracts of the crate and by `fields`,
+-- Hexadecimal lines: bytes as pairs of upper-case digits, then one line feed. Cited by the contracts of the crate and by the layers above, from `fields` on,
 -- where it is said what the bytes of a frame mean; the laws are in proofs/Lines.antt.
 -- Assumes nothing.
 use mathlib.Core.Bool.{Bool, false, cond, _&&_}

@@ -1,4 +1,5 @@
--- Numbers as bytes, high byte first. Cited by the contracts of `number_at` and `put_number` and by `fields`; the laws are in proofs/Numbers.antt.
+-- Numbers as bytes, high byte first. Cited by the contracts of `number_at` and `put_number` and by the layers above, from `fields` on; the laws are in
+-- proofs/Numbers.antt.
 -- Assumes nothing.
 use mathlib.Core.List.{List, [], _∷_}
 use Prim.Native.Nat.{ℕ, zero, suc, _+_, _*_, _/_, _%_, _^_}

@@ -1,5 +1,5 @@
 -- What each test of a good index says, number by number, and what follows of rows and lists: where they lie, and in which order.
--- Cited by the laws (Laws.antt) and by the proofs of the check.
+-- Cited by the laws (Laws.antt), by the proofs of the check, and by `lists` and `index_writer`.
 -- Assumes nothing.
 use mathlib.Core.Path.{_≡_, refl, ap, _∙_}
 use mathlib.Core.Logic.{_⊎_, inl, inr}

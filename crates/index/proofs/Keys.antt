@@ -1,5 +1,5 @@
 -- Rows in order are rows that rise by size and feature as one number, where every word fits 32 bits.
--- Cited by the proofs of the check, and by `lists`.
+-- Cited by the proofs of the check.
 -- Assumes nothing.
 use mathlib.Core.Path.{_≡_}
 use mathlib.Core.Logic.{⊎-elim, inl, inr}

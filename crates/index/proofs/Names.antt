@@ -1,5 +1,5 @@
--- Where a name stands, found by a binary search of the names' words, or by a guess. Cited by the proofs of `name_place`, `name_for`
--- and `name_near`.
+-- Where a name stands, found by a binary search of the names' words, or by a guess. Cited by the proofs of `name_place`, `name_for`,
+-- `name_near` and `guess_names`.
 -- Assumes nothing.
 use mathlib.Core.Path.{_≡_, refl, sym, ap, subst, _∙_}
 use mathlib.Core.Logic.{⊎-elim}

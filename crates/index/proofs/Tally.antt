@@ -1,5 +1,5 @@
 -- The tally of names while the lists are looked at: one posting more puts one more at its name's place, and nothing anywhere else.
--- Cited by the proofs of `list_good`, `rows_tallied` and `lists_good`.
+-- Cited by the proofs of `list_good`, `lists_good` and `good`.
 -- Assumes nothing.
 use mathlib.Core.Path.{_≡_, sym, ap, subst, _∙_}
 use mathlib.Core.Logic.{⊎-elim}

@@ -1,5 +1,5 @@
 -- Words that agree up to the total have the same head, names and rows and, where they are good, the same lists; and one is good
--- where the other is. Laws.antt hands this last on (`good-total`, `verdict-total`); the others are cited by `lists`, `search` and `statements`.
+-- where the other is. Laws.antt hands this last on (`good-total`, `verdict-total`); the others are cited by `lists`, `sizes` and `statements`.
 -- Assumes nothing.
 use mathlib.Core.Path.{_≡_, refl, sym, ap, ap₂, _∙_}
 use mathlib.Core.Bool.{true, cond, _&&_, _||_}

@@ -1,5 +1,5 @@
 -- The index of given names, `wordsOf`, whatever words follow it: it is good (`built-good`), its names are the given ones (`built-id`, `built-size`),
--- and each stands for its own features (`built-list`, `built-features`). Cited by whoever writes an index and by the search's end-to-end theorem.
+-- and each stands for its own features (`built-list`, `built-features`). Cited by whoever writes an index: `ordering` and `register`.
 -- The idea: its rows are the runs of the sorted postings, so a question about a row is one about a posting, and that is one about a name.
 -- Assumes nothing.
 use mathlib.Core.Path.{_≡_, refl, sym, ap, ap₂, _∙_}

@@ -1,5 +1,5 @@
 -- One pass over ascending postings makes the rows: what one posting more at the end does to the runs. Their words: `words-new` and `words-more` in Read.antt.
--- Cited by whoever writes an index.
+-- Cited by Rows.antt.
 -- Assumes nothing.
 use mathlib.Core.Path.{_≡_, refl, sym, ap, _∙_}
 use mathlib.Core.Logic.{⊎-elim}

@@ -1,4 +1,4 @@
--- A good index as statements, and back: `good-plain` and `plain-good`. Cited by whoever uses or makes a good index.
+-- A good index as statements, and back: `good-plain` and `plain-good`. Cited by the laws of this crate.
 -- Assumes nothing.
 use mathlib.Core.Path.{_≡_, sym, ap, _∙_}
 use mathlib.Core.Bool.{true, _&&_}

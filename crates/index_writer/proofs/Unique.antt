@@ -1,6 +1,6 @@
 -- A good index is the index of its own names and features (`good-built`), so it is fixed by them: `good-words`, `good-unique`, `built-same`.
 -- The idea: its rows are the runs of their own postings, these ascend, and an ascending list is fixed by its members.
--- Cited by whoever changes an index in place.
+-- For whoever changes an index in place; cited by nothing yet.
 -- Assumes nothing.
 use mathlib.Core.Path.{_≡_, sym, ap, ap₂, _∙_}
 use mathlib.Core.Bool.{true}

@@ -1,5 +1,5 @@
 -- Laws of ascending sequences and ascending lists, by index, and of what stands in a list, by its place.
--- Cited by `binary_search`, `index`, `lists`, `index_writer` and `search`.
+-- Cited by `binary_search`, `index`, `index_writer`, `ordering`, `candidates` and `sizes`.
 -- Assumes nothing.
 use mathlib.Core.Path.{_≡_, refl, sym, ap, subst, _∙_}
 use mathlib.Core.Logic.{⊎-elim}

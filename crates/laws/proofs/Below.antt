@@ -1,4 +1,5 @@
--- Laws of tests and sums over the numbers below a bound. Cited by `hex`, `fields`, `frames`, `index`, `lists` and `search`.
+-- Laws of tests and sums over the numbers below a bound. Cited wherever something is tested or counted up to a bound, from `hex` to
+-- `statements`.
 -- Assumes nothing.
 use mathlib.Core.Path.{_≡_, refl, sym, ap, ap₂, _∙_}
 use mathlib.Core.Logic.{⊎-elim}

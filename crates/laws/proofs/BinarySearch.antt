@@ -1,5 +1,5 @@
 -- A binary search: of a test that passes up to a place and fails from there on, the place. The code keeps a stretch in which the place lies, and
--- asks the test in its middle. Cited by the searches of `binary_search`, `index` and `lists`.
+-- asks the test in its middle. Cited by the searches of `binary_search`, `index` and `lists`, and by `sizes`.
 -- Assumes nothing.
 use mathlib.Core.Path.{_≡_, refl, sym, ap, subst, subst₂, _∙_}
 use mathlib.Core.Logic.{_⊎_, inl, inr, ⊎-elim}

@@ -1,4 +1,4 @@
--- Laws of the elements that pass a test. Cited by `ordering`, `candidates` and `search`.
+-- Laws of the elements that pass a test. Cited by `ordering` and `candidates`.
 -- Assumes nothing.
 use mathlib.Core.Path.{_≡_, refl, sym, ap, _∙_}
 use mathlib.Core.Bool.{Bool, true, false, cond, _&&_, _||_}

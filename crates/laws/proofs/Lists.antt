@@ -1,4 +1,4 @@
--- Laws of member, distinct, count and tabulate. Cited by `names` and every layer that counts shared features.
+-- Laws of member, distinct, count and tabulate. Cited by `names`, and from `index` to `statements` by most crates.
 -- Assumes nothing.
 use mathlib.Core.Path.{_≡_, refl, sym, ap, ap₂, _∙_}
 use mathlib.Core.Logic.{⊎-elim}

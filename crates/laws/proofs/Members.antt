@@ -1,5 +1,5 @@
--- Laws of the members of a list, and of a statement of each of them. Cited by `sorting`, `index`, `index_writer`, `candidates`, `search`,
--- `answers` and `statements`.
+-- Laws of the members of a list, and of a statement of each of them. Cited by `lines`, `sorting`, and from `index` to `statements` by
+-- most crates.
 -- Assumes nothing.
 use mathlib.Core.Path.{_≡_, refl, sym, ap, _∙_}
 use mathlib.Core.Logic.{_⊎_, inl, inr, ⊎-elim}

@@ -1,4 +1,4 @@
--- Two numbers compared, as a choice to go by. Cited by every crate.
+-- Two numbers compared, as a choice to go by. Cited by most crates.
 -- Assumes nothing.
 use mathlib.Core.Path.{_≡_}
 use mathlib.Core.Logic.{_⊎_, inl, inr}

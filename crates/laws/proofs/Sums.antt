@@ -1,4 +1,4 @@
--- Laws of sums over lists: over a sorted list, over those that pass a test, and the least sum of so many. Cited by `search`.
+-- Laws of sums over lists: over a sorted list, over those that pass a test, and the least sum of so many. Cited by `sizes`.
 -- Assumes nothing.
 use mathlib.Core.Path.{_≡_, refl, sym, ap, ap₂, _∙_}
 use mathlib.Core.Logic.{_⊎_, ⊎-elim}

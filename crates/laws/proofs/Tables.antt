@@ -1,4 +1,5 @@
--- Laws of tables made by `tabulate`: one entry changed, and how many numbers a list without repeats holds. Cited by `search`.
+-- Laws of tables made by `tabulate`: one entry changed, and how many numbers a list without repeats holds. Cited by `index_writer`, `candidates`,
+-- `sizes` and `search`.
 -- Assumes nothing.
 use mathlib.Core.Path.{_≡_, refl, sym, ap, ap₂, _∙_}
 use mathlib.Core.Logic.{_⊎_, ⊎-elim}

@@ -1,5 +1,5 @@
 -- Laws of tests: two that pass together are equal, one that cannot pass fails, both halves of `&&`, and one that is counted.
--- Cited by `likeness`, `index`, `lists`, `index_writer`, `candidates` and `search`.
+-- Cited by `likeness`, and from `index` to `answers` by most crates.
 -- Assumes nothing.
 use mathlib.Core.Path.{_≡_, refl, sym, _∙_}
 use mathlib.Core.Bool.{Bool, true, false, cond, _&&_, _||_, false≢true}

@@ -1,6 +1,6 @@
 -- What the layers say of lists of numbers: member, all different, strictly ascending, how many pass a test,
 -- the values of a function in order, the sum.
--- Cited by every crate. The laws are in proofs/Lists.antt.
+-- Cited by most crates. The laws are in proofs/Lists.antt.
 -- Assumes nothing.
 use mathlib.Core.Path.{_≡_}
 use mathlib.Core.Bool.{Bool, true, false, cond, _||_}

@@ -1,5 +1,5 @@
 -- Laws of the least count: it is at least 1, similar, and the smallest that is; at a searched size it is at most the smaller size. So a shared
--- count is similar exactly if the least count is at most it. Cited by the search.
+-- count is similar exactly if the least count is at most it. Cited by `sizes` and `statements`.
 -- Assumes nothing.
 use mathlib.Core.Path.{_≡_, refl, sym, ap, ap₂, fun-ext, _∙_}
 use mathlib.Core.Bool.{Bool, true, false, cond, _&&_, and-false}

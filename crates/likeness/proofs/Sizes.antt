@@ -1,5 +1,5 @@
 -- Laws of the sizes searched: they are those at which sharing every feature of the smaller set is similar, so skipping the others loses nothing.
--- Cited by the search.
+-- Cited by `sizes` and `statements`.
 -- Assumes nothing.
 use mathlib.Core.Path.{_≡_, refl, sym, ap, _∙_}
 use mathlib.Core.Bool.{Bool, true, false, _&&_, and-comm}

@@ -1,4 +1,4 @@
--- Words that agree with a good index up to its total have the same lists. Cited by `search`.
+-- Words that agree with a good index up to its total have the same lists. Cited by `sizes`.
 -- Assumes nothing.
 use mathlib.Core.Path.{_≡_, refl, ap, ap₂, _∙_}
 use mathlib.Core.Bool.{Bool, true, false, cond, _&&_}

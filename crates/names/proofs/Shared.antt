@@ -1,4 +1,4 @@
--- Laws of shared features: symmetric, at most either size. Cited by the search and by what is said of two registered names.
+-- Laws of shared features: symmetric, at most either size. Cited by `lists`.
 -- Assumes nothing.
 use mathlib.Core.Path.{_≡_, refl, sym, ap, ap₂, _∙_}
 use mathlib.Core.Bool.{Bool, true, false, cond, _||_}

@@ -1,5 +1,5 @@
 -- The whole search, as the code has it, is the method's: sorted features change nothing, and the answers' table holds the rows.
--- Cited by the proof of `run`.
+-- Cited by the proofs of `cover_sizes` and, in Running.antt, of `run`, and by `statements`.
 -- Assumes nothing.
 use mathlib.Core.Path.{_≡_, refl, sym, ap, ap₂, _∙_}
 use mathlib.Core.Logic.{_⊎_, ⊎-elim}

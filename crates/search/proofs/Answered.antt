@@ -1,4 +1,5 @@
--- The cases of an answer, as the definition sets them out. Cited by the proofs of `run`, `search_good` and `search`.
+-- The cases of an answer, as the definition sets them out. Cited by the proofs of `question`, `search_good` and `search`, by
+-- Running.antt and Outcomes.antt, and by `statements`.
 -- Assumes nothing.
 use mathlib.Core.Path.{_≡_, refl, sym, ap, _∙_}
 use mathlib.Core.Bool.{Bool, true, false, cond, not}

@@ -1,4 +1,4 @@
--- The answers by place, one size at a time. Cited by the proofs of the sizes.
+-- The answers by place, one size at a time. Cited by the proofs of `size_step` and `each_size`, and by `search`.
 -- Assumes nothing.
 use mathlib.Core.Path.{_≡_, refl, sym, ap, ap₂, _∙_}
 use mathlib.Core.Logic.{_⊎_, ⊎-elim}

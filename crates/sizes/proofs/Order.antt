@@ -1,5 +1,5 @@
 -- The order in which the code takes the lists of a size is the method's: small keys sorted, by length and by place among the sorted
--- features, stand as the features do by length and by feature number. Cited by the proof of `one_size`.
+-- features, stand as the features do by length and by feature number. Cited by Size.antt and EmptySignatures.antt.
 -- Assumes nothing.
 use mathlib.Core.Path.{_≡_, refl, sym, ap, ap₂, _∙_}
 use mathlib.Core.Logic.{⊎-elim}

@@ -1,5 +1,5 @@
 -- One size, as the code has it, is one size of the method: the lists cut out of the words, the names' ids, and the touches. Cited by the
--- proof of `one_size`.
+-- proof of `one_size`, by EmptySignatures.antt and Answering.antt, and by `search`.
 -- Assumes nothing.
 use mathlib.Core.Path.{_≡_, refl, sym, ap, ap₂, _∙_}
 use mathlib.Core.Logic.{⊎-elim}
