@@ -22,7 +22,7 @@ use Rattle.fields.specs.declared.Layout.{Layout}
 use Rattle.frames.specs.declared.RowRead.the-variants.{Row}
 use Rattle.frames.specs.declared.EndRead.the-variants.{End}
 use Rattle.frames.specs.declared.RefusalRead.the-variants.{Refusal}
-use Rattle.frames.specs.Frames.{queryFrame, rowFrame, endFrame, refusalFrame, rowOut, endOut, refusalOut, refusalLength}
+use Rattle.frames.specs.Frames.{queryFrame, rowFrame, endFrame, refusalFrame, rowOut, endOut, refusalOut, refusalLineLength}
 use Rattle.frames.proofs.RoundTrips.{read-write-row, read-write-end, read-write-refusal}
 use Rattle.lines.specs.Lines.{linesOf, joinLine, lineFeed}
 use Rattle.sizes.specs.Method.{touchesOf, answersOf}
@@ -96,7 +96,7 @@ reads-refusal number touches h k = read-write-refusal number touches h k
 
 -- ---- how long an answer is at most
 
-pub refusal-length : (number touches : ℕ) → length (refusalLine number touches) ≡ refusalLength
+pub refusal-length : (number touches : ℕ) → length (refusalLine number touches) ≡ refusalLineLength
 unfolding lineOf hexLine hexOf fieldBytes nameBytes bytesFor
 refusal-length number touches = refl
 

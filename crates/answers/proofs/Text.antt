@@ -16,7 +16,7 @@ use Rattle.hex.specs.Numbers.{bytesFor}
 use Rattle.fields.specs.Layouts.{fieldBytes, nameBytes, lineOf, writtenOf, outOf}
 use Rattle.fields.specs.declared.Written.{Written}
 use Rattle.fields.specs.declared.Layout.{Layout}
-use Rattle.frames.specs.Frames.{rowFrame, endFrame, refusalFrame, rowLength, endLength}
+use Rattle.frames.specs.Frames.{rowFrame, endFrame, refusalFrame, rowLineLength, endLineLength}
 use Rattle.search.specs.Answers.{Columns}
 use Rattle.answers.specs.Output.{rowLine, endLine, refusalLine, rowText, rowsText, foundText, answerText, fittingOf, fittedOf}
 use Rattle.search.specs.declared.Answer.{Answer}
@@ -24,15 +24,15 @@ use Rattle.search.specs.declared.Answer.the-variants.{Found, Refused}
 
 -- ---- how long the lines are
 
-pub length-row : (id shared size : ℕ) → length (rowLine id shared size) ≡ rowLength
+pub length-row : (id shared size : ℕ) → length (rowLine id shared size) ≡ rowLineLength
 unfolding lineOf hexLine hexOf fieldBytes nameBytes bytesFor
 length-row id shared size = refl
 
-pub length-end : (rows touches p q : ℕ) → length (endLine rows touches p q) ≡ endLength
+pub length-end : (rows touches p q : ℕ) → length (endLine rows touches p q) ≡ endLineLength
 unfolding lineOf hexLine hexOf fieldBytes nameBytes bytesFor
 length-end rows touches p q = refl
 
-pub length-rows : (c : Columns) (n : ℕ) → length (rowsText c n) ≡ rowLength * n
+pub length-rows : (c : Columns) (n : ℕ) → length (rowsText c n) ≡ rowLineLength * n
 unfolding rowsText
 length-rows c zero = refl
 length-rows c (suc k) =
@@ -50,46 +50,46 @@ out-exact y f out e =
     rw (le-leb (length (lineOf y f [])) (length out) (omega arith))
     (ap (λ (t : List ℕ). lineOf y f [] ++ t) (drop-of-length-le out {i = length (lineOf y f [])} (omega arith)) ∙ append-nil (lineOf y f []))
 
-pub row-exact : (id shared size : ℕ) (out : List ℕ) → length out ≡ rowLength → outOf rowFrame (id ∷ shared ∷ size ∷ []) [] out ≡ rowLine id shared size
+pub row-exact : (id shared size : ℕ) (out : List ℕ) → length out ≡ rowLineLength → outOf rowFrame (id ∷ shared ∷ size ∷ []) [] out ≡ rowLine id shared size
 row-exact id shared size out e = out-exact rowFrame (id ∷ shared ∷ size ∷ []) out (length-row id shared size ∙ sym e)
 
-pub put-line : (at k : ℕ) (xs part line : List ℕ) → k ≡ rowLength → part ≡ line → putMid at k xs part ≡ take at xs ++ (line ++ drop (at + rowLength) xs)
+pub put-line : (at k : ℕ) (xs part line : List ℕ) → k ≡ rowLineLength → part ≡ line → putMid at k xs part ≡ take at xs ++ (line ++ drop (at + rowLineLength) xs)
 put-line at k xs part line e p =
     ap₂ (λ (t : List ℕ) (n : ℕ). take at xs ++ (t ++ drop n (drop at xs))) p e
-    ∙ ap (λ (t : List ℕ). take at xs ++ (line ++ t)) (drop-drop rowLength at xs)
+    ∙ ap (λ (t : List ℕ). take at xs ++ (line ++ t)) (drop-drop rowLineLength at xs)
 
 -- ---- the rows, one after the other
 
-pub rows-none : (c : Columns) (out : List ℕ) → out ≡ rowsText c 0 ++ drop (rowLength * 0) out
+pub rows-none : (c : Columns) (out : List ℕ) → out ≡ rowsText c 0 ++ drop (rowLineLength * 0) out
 unfolding rowsText
 rows-none c out = refl
 
-pub rows-more : (c : Columns) (out : List ℕ) (k : ℕ) → rowLength * k ≤ length out
-    → take (rowLength * k) (rowsText c k ++ drop (rowLength * k) out) ++ (rowText c k ++ drop (rowLength * k + rowLength) (rowsText c k ++ drop (rowLength * k) out))
-    ≡ rowsText c (k + 1) ++ drop (rowLength * (k + 1)) out
+pub rows-more : (c : Columns) (out : List ℕ) (k : ℕ) → rowLineLength * k ≤ length out
+    → take (rowLineLength * k) (rowsText c k ++ drop (rowLineLength * k) out) ++ (rowText c k ++ drop (rowLineLength * k + rowLineLength) (rowsText c k ++ drop (rowLineLength * k) out))
+    ≡ rowsText c (k + 1) ++ drop (rowLineLength * (k + 1)) out
 rows-more c out k h =
     let t = rowsText c k in
     let l = rowText c k in
-    let n : length t ≡ rowLength * k = length-rows c k in
-    let m : rowLength * k + rowLength ≡ rowLength * (k + 1) = omega arith in
-    ap₂ (λ (x y : List ℕ). x ++ (l ++ y)) (take-at t (drop (rowLength * k) out) (rowLength * k) n)
-    (ap (λ (j : ℕ). drop (j + rowLength) (t ++ drop (rowLength * k) out)) (sym n) ∙ drop-append-add t (drop (rowLength * k) out) rowLength ∙ drop-drop rowLength (rowLength * k) out ∙ ap (λ (j : ℕ). drop j out) m)
-    ∙ sym (append-assoc t l (drop (rowLength * (k + 1)) out))
-    ∙ ap (λ (x : List ℕ). x ++ drop (rowLength * (k + 1)) out) (sym (rows-next k))
+    let n : length t ≡ rowLineLength * k = length-rows c k in
+    let m : rowLineLength * k + rowLineLength ≡ rowLineLength * (k + 1) = omega arith in
+    ap₂ (λ (x y : List ℕ). x ++ (l ++ y)) (take-at t (drop (rowLineLength * k) out) (rowLineLength * k) n)
+    (ap (λ (j : ℕ). drop (j + rowLineLength) (t ++ drop (rowLineLength * k) out)) (sym n) ∙ drop-append-add t (drop (rowLineLength * k) out) rowLineLength ∙ drop-drop rowLineLength (rowLineLength * k) out ∙ ap (λ (j : ℕ). drop j out) m)
+    ∙ sym (append-assoc t l (drop (rowLineLength * (k + 1)) out))
+    ∙ ap (λ (x : List ℕ). x ++ drop (rowLineLength * (k + 1)) out) (sym (rows-next k))
   where
     rows-next : (k : ℕ) → rowsText c (k + 1) ≡ rowsText c k ++ rowText c k
     rows-next k = ap (rowsText c) (add-one k) ∙ unfold rowsText in refl
 
-pub rows-all : (c : Columns) (out : List ℕ) (n : ℕ) → length out ≡ rowLength * n → rowsText c n ++ drop (rowLength * n) out ≡ rowsText c n
+pub rows-all : (c : Columns) (out : List ℕ) (n : ℕ) → length out ≡ rowLineLength * n → rowsText c n ++ drop (rowLineLength * n) out ≡ rowsText c n
 rows-all c out n e =
-    ap (λ (t : List ℕ). rowsText c n ++ t) (drop-of-length-le out {i = rowLength * n} (omega arith)) ∙ append-nil (rowsText c n)
+    ap (λ (t : List ℕ). rowsText c n ++ t) (drop-of-length-le out {i = rowLineLength * n} (omega arith)) ∙ append-nil (rowsText c n)
 
 -- ---- the rows and their end
 
-pub end-exact : (rows touches p q : ℕ) (out : List ℕ) → length out ≡ endLength → outOf endFrame (rows ∷ touches ∷ p ∷ q ∷ []) [] out ≡ endLine rows touches p q
+pub end-exact : (rows touches p q : ℕ) (out : List ℕ) → length out ≡ endLineLength → outOf endFrame (rows ∷ touches ∷ p ∷ q ∷ []) [] out ≡ endLine rows touches p q
 end-exact rows touches p q out e = out-exact endFrame (rows ∷ touches ∷ p ∷ q ∷ []) out (length-end rows touches p q ∙ sym e)
 
-pub length-found : (rows touches p q : ℕ) (c : Columns) → length (foundText rows touches p q c) ≡ rowLength * rows + endLength
+pub length-found : (rows touches p q : ℕ) (c : Columns) → length (foundText rows touches p q c) ≡ rowLineLength * rows + endLineLength
 unfolding foundText
 length-found rows touches p q c =
     let a = length-append (rowsText c rows) (endLine rows touches p q) in
@@ -98,13 +98,13 @@ length-found rows touches p q c =
     omega arith
 
 -- the end after rows that fill the front
-pub put-end : (rows out part line : List ℕ) (n k : ℕ) → length rows ≡ n → k ≡ endLength → part ≡ line
-    → putMid n k (rows ++ drop n out) part ≡ (rows ++ line) ++ drop (n + endLength) out
+pub put-end : (rows out part line : List ℕ) (n k : ℕ) → length rows ≡ n → k ≡ endLineLength → part ≡ line
+    → putMid n k (rows ++ drop n out) part ≡ (rows ++ line) ++ drop (n + endLineLength) out
 put-end rows out part line n k l e p =
     ap₂ (λ (t : List ℕ) (m : ℕ). take n (rows ++ drop n out) ++ (t ++ drop m (drop n (rows ++ drop n out)))) p e
-    ∙ ap₂ (λ (x y : List ℕ). x ++ (line ++ drop endLength y)) (take-at rows (drop n out) n l) (drop-at rows (drop n out) n l)
-    ∙ ap (λ (y : List ℕ). rows ++ (line ++ y)) (drop-drop endLength n out)
-    ∙ sym (append-assoc rows line (drop (n + endLength) out))
+    ∙ ap₂ (λ (x y : List ℕ). x ++ (line ++ drop endLineLength y)) (take-at rows (drop n out) n l) (drop-at rows (drop n out) n l)
+    ∙ ap (λ (y : List ℕ). rows ++ (line ++ y)) (drop-drop endLineLength n out)
+    ∙ sym (append-assoc rows line (drop (n + endLineLength) out))
 
 -- ---- lines that fit, and lines that don't
 
@@ -124,12 +124,12 @@ pub fitted-all : (text out : List ℕ) (n : ℕ) → length text ≡ n → n ≤
 unfolding fittedOf
 fitted-all text out n e h = rw (le-leb (length text) (length out) (omega arith)) (ap (λ (k : ℕ). text ++ drop k out) (sym e))
 
-pub fitted-found : (rows touches p q : ℕ) (c : Columns) (out : List ℕ) → rowLength * rows + endLength ≤ length out
-    → (rowsText c rows ++ endLine rows touches p q) ++ drop (rowLength * rows + endLength) out ≡ fittedOf (foundText rows touches p q c) out
+pub fitted-found : (rows touches p q : ℕ) (c : Columns) (out : List ℕ) → rowLineLength * rows + endLineLength ≤ length out
+    → (rowsText c rows ++ endLine rows touches p q) ++ drop (rowLineLength * rows + endLineLength) out ≡ fittedOf (foundText rows touches p q c) out
 fitted-found rows touches p q c out h =
-    unfolded ∙ fitted-all (foundText rows touches p q c) out (rowLength * rows + endLength) (length-found rows touches p q c) h
+    unfolded ∙ fitted-all (foundText rows touches p q c) out (rowLineLength * rows + endLineLength) (length-found rows touches p q c) h
   where
-    unfolded : (rowsText c rows ++ endLine rows touches p q) ++ drop (rowLength * rows + endLength) out ≡ foundText rows touches p q c ++ drop (rowLength * rows + endLength) out
+    unfolded : (rowsText c rows ++ endLine rows touches p q) ++ drop (rowLineLength * rows + endLineLength) out ≡ foundText rows touches p q c ++ drop (rowLineLength * rows + endLineLength) out
     unfolded = unfold foundText in refl
 
 -- a refusal as its frame's writer leaves it

@@ -9,7 +9,7 @@ use Rattle.laws.specs.Lists.{tabulate}
 use Rattle.names.specs.Features.{featuresOf}
 use Rattle.fields.specs.declared.Written.{Written}
 use Rattle.fields.specs.Layouts.{isFrame, fieldsIn, nameIn, lineOf}
-use Rattle.frames.specs.Frames.{queryFrame, rowFrame, endFrame, refusalFrame, rowLength, endLength}
+use Rattle.frames.specs.Frames.{queryFrame, rowFrame, endFrame, refusalFrame, rowLineLength, endLineLength}
 use Rattle.lines.specs.Lines.{linesOf, lineLength}
 use Rattle.index_writer.specs.Written.{blank}
 use Rattle.register.specs.Build.{builtOf, wordsAfter}
@@ -97,7 +97,7 @@ rowsLent = 256
 
 -- how many bytes the longest answer has: a line for each row that is lent, and the end
 abbrev pub longestAnswer : ℕ
-longestAnswer = rowLength * rowsLent + endLength
+longestAnswer = rowLineLength * rowsLent + endLineLength
 
 -- the query of a 51 line, and its fields
 abbrev pub queryIn : List ℕ → List ℕ

@@ -6,7 +6,7 @@ ghost use mathlib.Core.List.{_++_};
 ghost use Prim.Native.Nat.{_+_, _*_, _≤_, _<_};
 ghost use lib.ListN.{length, take, drop};
 ghost use Rattle.fields.specs.Layouts.{longestName};
-ghost use Rattle.frames.specs.Frames.{rowLength};
+ghost use Rattle.frames.specs.Frames.{rowLineLength};
 ghost use Rattle.index.specs.Good.{Good};
 ghost use Rattle.search.specs.Answers.{rowsIn, asColumns, Searched};
 ghost use Rattle.answers.specs.Output.{begins, registerEnd, openedOf, openWords, rowLine, rowsText, rowsLent, foundText, answerText, answerOf, fittingOf, fittedOf, lineText, respondedOf};
@@ -87,8 +87,8 @@ pub fn open(input: &[u8], words: &mut [u32]) -> Opened
 
 // Writes a 52 line at the place of row k.
 fn put_row(id: u32, shared: u32, size: u32, out: &mut [u8], k: usize)
-    requires { ⌜ (id < 65536) × (shared < 256) × (size < 256) × (k ≤ rowsLent) × (rowLength * k + rowLength ≤ length (now out)) ⌝ }
-    ensures { λ _. ⌜ now (out .exit) ≡ take (rowLength * k) (now (out .entry)) ++ (rowLine id shared size ++ drop (rowLength * k + rowLength) (now (out .entry))) ⌝ }
+    requires { ⌜ (id < 65536) × (shared < 256) × (size < 256) × (k ≤ rowsLent) × (rowLineLength * k + rowLineLength ≤ length (now out)) ⌝ }
+    ensures { λ _. ⌜ now (out .exit) ≡ take (rowLineLength * k) (now (out .entry)) ++ (rowLine id shared size ++ drop (rowLineLength * k + rowLineLength) (now (out .entry))) ⌝ }
 {
     let at = frames::ROW_LENGTH * k;
     frames::write_row(
@@ -101,7 +101,7 @@ fn put_row(id: u32, shared: u32, size: u32, out: &mut [u8], k: usize)
 
 // Writes a 52 line for each of the first n rows.
 fn put_rows(ids: &[u32], shared: &[u32], sizes: &[u32], n: usize, out: &mut [u8])
-    requires { ⌜ Shown (asColumns (now ids) (now shared) (now sizes)) n × (length (now out) ≡ rowLength * n) ⌝ }
+    requires { ⌜ Shown (asColumns (now ids) (now shared) (now sizes)) n × (length (now out) ≡ rowLineLength * n) ⌝ }
     ensures { λ _. ⌜ now (out .exit) ≡ rowsText (asColumns (now (ids .entry)) (now (shared .entry)) (now (sizes .entry))) n ⌝ }
 {
     let mut k: usize = 0;

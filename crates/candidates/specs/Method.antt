@@ -18,9 +18,13 @@ heldBy ls id = countOf (λ (l : List ℕ). member id l) ls
 abbrev pub signatures : ℕ → ℕ → ℕ
 signatures x t = (x - t) + 1
 
+-- the postings of the first n lists
+abbrev pub postingsOf : List (List ℕ) → ℕ → ℕ
+postingsOf ls n = sumOf (map length (take n ls))
+
 -- the postings of the signature lists
 unfoldable pub signaturePostings : List (List ℕ) → ℕ → ℕ
-signaturePostings ls t = sumOf (map length (take (signatures (length ls) t) ls))
+signaturePostings ls t = postingsOf ls (signatures (length ls) t)
 
 -- whether the id is still a candidate after d later features. At first: met in a signature list. The later feature at place k, counted
 -- from 0 in the whole order, tests each remaining candidate, and drops it after the test where its count plus x − k − 1 is below t

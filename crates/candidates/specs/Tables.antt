@@ -2,15 +2,15 @@
 -- Assumes nothing.
 use mathlib.Core.Path.{_≡_}
 use mathlib.Core.Bool.{Bool, true, false, cond, _&&_}
-use mathlib.Core.List.{List, map}
+use mathlib.Core.List.{List}
 use Prim.Native.Nat.{ℕ, _+_, _/_, _%_, _≤_, _<_}
 use lib.ListN.{length, getD, take, drop}
 use lib.Dec.{leb, ltb, eqb}
-use Rattle.laws.specs.Lists.{member, Distinct, Ascending, tabulate, sumOf}
+use Rattle.laws.specs.Lists.{member, Distinct, Ascending, tabulate}
 use Rattle.laws.specs.Below.{sumBelow, countBelow}
 use Rattle.index.specs.Good.{mostNames}
 use Rattle.candidates.specs.Spending.{Spending}
-use Rattle.candidates.specs.Method.{heldBy, signatures, remains, laterCount}
+use Rattle.candidates.specs.Method.{heldBy, signatures, postingsOf, remains, laterCount}
 
 -- ---- the names, by their ids in order
 
@@ -91,10 +91,6 @@ unfoldable pub laterTouches : List ℕ → List (List ℕ) → ℕ → ℕ → �
 laterTouches ids ls t d = sumBelow d (λ (e : ℕ). countBelow mostNames (remainsAt ids ls t e))
 
 -- ---- what the phases come to
-
--- the postings of the first n lists
-abbrev pub postingsOf : List (List ℕ) → ℕ → ℕ
-postingsOf ls n = sumOf (map length (take n ls))
 
 -- after the signature lists: their postings are the touches, and the tables hold the counts
 pub record Gathered (ids : List ℕ) (ls : List (List ℕ)) (n budget : ℕ) (counts met : List ℕ) (past : Bool) (touches m : ℕ) : Type 0 where

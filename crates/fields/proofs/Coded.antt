@@ -13,7 +13,7 @@ use Rattle.hex.specs.Lines.{bytesOf}
 use Rattle.hex.specs.Numbers.{numberOf}
 use Rattle.fields.specs.declared.Layout.{Layout}
 use Rattle.fields.specs.declared.Reading.{Reading}
-use Rattle.fields.specs.Layouts.{headSize, nameSize, laidOut, isFrame, fieldsOf, fieldsIn, nameIn, acceptedAs, refusedWith, readOf, bufferOf}
+use Rattle.fields.specs.Layouts.{headSize, tailSize, laidOut, isFrame, fieldsOf, fieldsIn, nameIn, acceptedAs, refusedWith, readOf, bufferOf}
 use Rattle.fields.proofs.Layouts.{most, length-read, plain-len, plain-eleven}
 
 -- the layout with k widths of 0 more
@@ -52,7 +52,7 @@ module _ (k : ℕ) (y : Layout) where
 
   module _ (l : List ℕ) where
     frame-wider : isFrame (wider k y) l ≡ isFrame y l
-    unfolding isFrame laidOut nameSize
+    unfolding isFrame laidOut tailSize
     frame-wider = rw head-wider
 
     name-wider : nameIn (wider k y) l ≡ nameIn y l

@@ -17,7 +17,7 @@ use Rattle.hex.proofs.Lines.{take-bytes, drop-bytes, length-bytes, well-formed-
 use Rattle.hex.proofs.Numbers.{length-bytes-for, bytes-for-bytes, number-bytes, bytes-number}
 use Rattle.fields.specs.declared.Layout.{Layout}
 use Rattle.fields.specs.declared.Reading.{Reading}
-use Rattle.fields.specs.Layouts.{headSize, fieldBytes, nameBytes, lineOf, FieldsFit, Fitting, nameSize, laidOut, isFrame, fieldsOf, fieldsIn, nameIn, acceptedAs, refusedWith, readOf, bufferOf, longestName}
+use Rattle.fields.specs.Layouts.{headSize, fieldBytes, nameBytes, lineOf, FieldsFit, Fitting, tailSize, laidOut, isFrame, fieldsOf, fieldsIn, nameIn, acceptedAs, refusedWith, readOf, bufferOf, longestName}
 use Rattle.fields.proofs.Layouts.{length-field-bytes, fields-fit, size-named, frame-well-formed, frame-kind, frame-length, name-plain, name-named, length-name, read-zero, read-malformed, read-good, buffer-good}
 
 -- ---- what fits
@@ -114,7 +114,7 @@ module _ (y : Layout) (f name : List ℕ) (kind : y .kind < 256) (bytes : Bytes 
   well-formed-line = well-formed-hex _ line-bytes
 
   pub frame-line : isFrame y (lineOf y f name) ≡ true
-  unfolding isFrame laidOut headSize nameSize
+  unfolding isFrame laidOut headSize tailSize
   frame-line =
       rw (well-formed-line, bytes-line, eq-eqb (y .kind) (y .kind) refl)
       (eq-eqb _ _ (sized (y .kind) (sumOf (y .widths)) (fieldBytes (y .widths) f) (y .named) name (length-field-bytes (y .widths) f)))
@@ -169,7 +169,7 @@ parts (k ∷ t) ws named b e =
 module _ (y : Layout) (l : List ℕ) (e : isFrame y l ≡ true) where
   -- the line of the fields and the name that were read is the line
   pub write-read : lineOf y (fieldsIn y l) (nameIn y l) ≡ l
-  unfolding lineOf fieldsIn nameIn headSize nameSize
+  unfolding lineOf fieldsIn nameIn headSize tailSize
   write-read =
       let w = frame-well-formed y l e in
       rw (← frame-kind y l e, parts (bytesOf l) (y .widths) (y .named) (well-formed-bytes l w) (frame-length y l e)) (hex-bytes l w)

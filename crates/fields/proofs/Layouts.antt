@@ -19,7 +19,7 @@ use Rattle.hex.proofs.Lines.{take-bytes, drop-bytes, length-bytes, well-formed-
 use Rattle.hex.proofs.Numbers.{number-below, length-bytes-for}
 use Rattle.fields.specs.declared.Layout.{Layout}
 use Rattle.fields.specs.declared.Reading.{Reading}
-use Rattle.fields.specs.Layouts.{headSize, narrow, fieldBytes, FieldsFit, nameSize, laidOut, isFrame, fieldsOf, fieldsIn, nameIn, acceptedAs, refusedWith, readOf, bufferOf, nameBytes, lineOf, writtenOf, outOf, longestName}
+use Rattle.fields.specs.Layouts.{headSize, narrow, fieldBytes, FieldsFit, tailSize, laidOut, isFrame, fieldsOf, fieldsIn, nameIn, acceptedAs, refusedWith, readOf, bufferOf, nameBytes, lineOf, writtenOf, outOf, longestName}
 
 -- how many widths a layout has in the code, `Layout::FIELDS`
 abbrev pub most : ℕ
@@ -137,12 +137,12 @@ sets-all l s e =
 
 -- ---- whether a line is a frame
 
-pub size-plain : (y : Layout) (s : List ℕ) → y .named ≡ false → nameSize y s ≡ 0
-unfolding nameSize
+pub size-plain : (y : Layout) (s : List ℕ) → y .named ≡ false → tailSize y s ≡ 0
+unfolding tailSize
 size-plain y s e = rw e
 
-pub size-named : (y : Layout) (s : List ℕ) → y .named ≡ true → nameSize y s ≡ 1 + getD s (headSize y) 0
-unfolding nameSize
+pub size-named : (y : Layout) (s : List ℕ) → y .named ≡ true → tailSize y s ≡ 1 + getD s (headSize y) 0
+unfolding tailSize
 size-named y s e = rw e
 
 module _ (y : Layout) (l : List ℕ) where
@@ -154,16 +154,16 @@ module _ (y : Layout) (l : List ℕ) where
   unfolding isFrame laidOut
   frame-other n = rw (ne-eqb _ _ n) (and-false (wellFormed l))
 
-  pub frame-short : length l / 2 < headSize y + nameSize y (bytesOf l) → isFrame y l ≡ false
+  pub frame-short : length l / 2 < headSize y + tailSize y (bytesOf l) → isFrame y l ≡ false
   unfolding isFrame laidOut
   frame-short h =
       let n = length-bytes l in
-      let e : eqb (length (bytesOf l)) (headSize y + nameSize y (bytesOf l)) ≡ false =
-      ne-eqb _ _ (λ (q : length (bytesOf l) ≡ headSize y + nameSize y (bytesOf l)). omega arith)
+      let e : eqb (length (bytesOf l)) (headSize y + tailSize y (bytesOf l)) ≡ false =
+      ne-eqb _ _ (λ (q : length (bytesOf l) ≡ headSize y + tailSize y (bytesOf l)). omega arith)
       in
       rw (e, and-false (eqb (getD (bytesOf l) 0 0) (y .kind))) (and-false (wellFormed l))
 
-  pub frame-sized : wellFormed l ≡ true → getD (bytesOf l) 0 0 ≡ y .kind → isFrame y l ≡ eqb (length l / 2) (headSize y + nameSize y (bytesOf l))
+  pub frame-sized : wellFormed l ≡ true → getD (bytesOf l) 0 0 ≡ y .kind → isFrame y l ≡ eqb (length l / 2) (headSize y + tailSize y (bytesOf l))
   unfolding isFrame laidOut
   frame-sized e k = rw (e, eq-eqb _ _ k, length-bytes)
 
@@ -180,7 +180,7 @@ module _ (y : Layout) (l : List ℕ) where
   unfolding isFrame laidOut
   frame-kind e = eqb-true _ _ (and-left _ _ (and-right (wellFormed l) _ e))
 
-  pub frame-length : isFrame y l ≡ true → length (bytesOf l) ≡ headSize y + nameSize y (bytesOf l)
+  pub frame-length : isFrame y l ≡ true → length (bytesOf l) ≡ headSize y + tailSize y (bytesOf l)
   unfolding isFrame laidOut
   frame-length e = eqb-true _ _ (and-right (eqb (getD (bytesOf l) 0 0) (y .kind)) _ (and-right (wellFormed l) _ e))
 

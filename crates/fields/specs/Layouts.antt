@@ -61,12 +61,12 @@ pub record Fitting (y : Layout) (f name : List ℕ) : Type 0 where
 -- ---- a line
 
 -- how many bytes come after the fields: the length byte and as many as it says; none in a layout without a name
-unfoldable pub nameSize : Layout → List ℕ → ℕ
-nameSize y s = cond (y .named) (1 + getD s (headSize y) 0) 0
+unfoldable pub tailSize : Layout → List ℕ → ℕ
+tailSize y s = cond (y .named) (1 + getD s (headSize y) 0) 0
 
 -- whether the bytes begin with the kind and are just as many as the layout has
 unfoldable pub laidOut : Layout → List ℕ → Bool
-laidOut y s = eqb (getD s 0 0) (y .kind) && eqb (length s) (headSize y + nameSize y s)
+laidOut y s = eqb (getD s 0 0) (y .kind) && eqb (length s) (headSize y + tailSize y s)
 
 -- whether the line is a frame of the layout
 unfoldable pub isFrame : Layout → List ℕ → Bool

@@ -7,7 +7,7 @@ use Prim.Native.Nat.{ℕ}
 use Rattle.laws.specs.Lists.{sumOf}
 use Rattle.hex.specs.Lines.{digitOf, placeIn, valueOf, isDigit, hexOf, hexLine, wellFormed, bytesOf}
 use Rattle.hex.specs.Numbers.{numberOf, bytesFor}
-use Rattle.fields.specs.Layouts.{headSize, fieldBytes, nameBytes, lineOf, nameSize, laidOut, isFrame, fieldsOf, fieldsIn, nameIn, readOf}
+use Rattle.fields.specs.Layouts.{headSize, fieldBytes, nameBytes, lineOf, tailSize, laidOut, isFrame, fieldsOf, fieldsIn, nameIn, readOf}
 use Rattle.frames.specs.declared.RowRead.the-variants.{Row}
 use Rattle.frames.specs.declared.EndRead.the-variants.{End}
 use Rattle.frames.specs.declared.RefusalRead.the-variants.{Refusal}
@@ -57,7 +57,7 @@ pub listing-read : (readOf nameFrame nameLine 4 ≡ nameOut (record { number = 0
     × (readOf rowFrame rowLine 0 ≡ rowOut (Row 11 4 7))
     × (readOf endFrame endLine 0 ≡ endOut (End 3 15 8 13))
     × (readOf refusalFrame refusalLine 0 ≡ refusalOut (Refusal 7 14))
-unfolding readOf isFrame wellFormed isDigit valueOf placeIn laidOut bytesOf headSize sumOf nameSize nameIn fieldsIn fieldsOf numberOf
+unfolding readOf isFrame wellFormed isDigit valueOf placeIn laidOut bytesOf headSize sumOf tailSize nameIn fieldsIn fieldsOf numberOf
 listing-read = (refl, refl, refl, refl, refl, refl, refl)
 
 -- damage to the row: a lower-case digit, no line feed, two of them; no bytes at all; and the row read as an end
@@ -66,5 +66,5 @@ pub damaged : (isFrame rowFrame (53 ∷ 50 ∷ 48 ∷ 48 ∷ 48 ∷ 98 ∷ 48 �
     × (isFrame rowFrame (53 ∷ 50 ∷ 48 ∷ 48 ∷ 48 ∷ 66 ∷ 48 ∷ 52 ∷ 48 ∷ 55 ∷ 10 ∷ 10 ∷ []) ≡ false)
     × (isFrame rowFrame [] ≡ false)
     × (isFrame endFrame rowLine ≡ false)
-unfolding isFrame wellFormed isDigit valueOf placeIn laidOut bytesOf headSize sumOf nameSize
+unfolding isFrame wellFormed isDigit valueOf placeIn laidOut bytesOf headSize sumOf tailSize
 damaged = (refl, refl, refl, refl, refl)

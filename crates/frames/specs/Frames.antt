@@ -43,14 +43,14 @@ abbrev pub layouts : List Layout
 layouts = nameFrame ∷ queryFrame ∷ rowFrame ∷ endFrame ∷ refusalFrame ∷ []
 
 -- how long a 52 line is, a 45 line and a 58 line, their line feed included
-abbrev pub rowLength : ℕ
-rowLength = 11
+abbrev pub rowLineLength : ℕ
+rowLineLength = 11
 
-abbrev pub endLength : ℕ
-endLength = 23
+abbrev pub endLineLength : ℕ
+endLineLength = 23
 
-abbrev pub refusalLength : ℕ
-refusalLength = 13
+abbrev pub refusalLineLength : ℕ
+refusalLineLength = 13
 
 -- ---- the answers of the five readers, set out
 

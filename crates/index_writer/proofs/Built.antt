@@ -29,7 +29,7 @@ use Rattle.words.specs.Words.{nameCount, rowCount, postingCount, nameWord, name
 use Rattle.index.specs.Good.{mostNames, mostPostings, largestId, rowBefore, listsWith, Good}
 use Rattle.lists.specs.Lists.{listIn, featuresIn}
 use Rattle.index_writer.specs.Built.{Entry, noEntry, wordOf, idSpan, tripleOf, triplesOf, allTriples, Row, noRow, runsOf, listsOf, triplesFrom, RowFit, RowsFit, rowWords, wordsFrom, rowsOf, wordsOf, EntryFit, Fit}
-use Rattle.index_writer.specs.Contents.{namesIn, rowIn, rowsIn, entryIn, entriesIn, Narrow}
+use Rattle.index_writer.specs.Contents.{namesIn, rowIn, allRowsIn, entryIn, entriesIn, Narrow}
 use Rattle.index_writer.specs.Plain.{NameOf, Plain}
 use Rattle.index.proofs.Facts.{Before, row-before}
 use Rattle.index.proofs.Laws.{good-ids-apart}
@@ -77,8 +77,8 @@ unfolding rowsOf
 rows-postings es = length-runs (sortOf (allTriples es)) ∙ length-sort (allTriples es)
 
 -- how many rows hold an id, over the rows as a list
-lists-with : (w : List ℕ) (id : ℕ) → listsWith w id ≡ countOf (λ (x : Row). member id (x .list)) (rowsIn w)
-unfolding listsWith rowsIn
+lists-with : (w : List ℕ) (id : ℕ) → listsWith w id ≡ countOf (λ (x : Row). member id (x .list)) (allRowsIn w)
+unfolding listsWith allRowsIn
 lists-with w id = sym (count-tabulate (λ (x : Row). member id (x .list)) (rowIn w) (rowCount w))
 
 -- a lower key: a lower size, or the same size and a lower feature
@@ -125,7 +125,7 @@ module _ (es : List Entry) (rest : List ℕ) where
   unfolding wordsOf
   built-names-in = read-names (map wordOf es) (rowsOf es) rest
 
-  pub built-rows : rowsIn (wordsOf es ++ rest) ≡ rowsOf es
+  pub built-rows : allRowsIn (wordsOf es ++ rest) ≡ rowsOf es
   unfolding wordsOf
   built-rows = read-rows (map wordOf es) (rowsOf es) rest
 

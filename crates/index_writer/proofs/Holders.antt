@@ -14,7 +14,7 @@ use Rattle.index.proofs.Facts.{Before, good-facts}
 use Rattle.lists.specs.Lists.{rowFor, listIn}
 use Rattle.lists.proofs.Laws.{row-found, row-for, list-row, list-holder}
 use Rattle.index_writer.specs.Built.{Row, RowFit, RowsFit}
-use Rattle.index_writer.specs.Contents.{rowIn, rowsIn, Narrow}
+use Rattle.index_writer.specs.Contents.{rowIn, allRowsIn, Narrow}
 use Rattle.index_writer.specs.Plain.{Plain}
 use Rattle.index_writer.proofs.Plain.{good-plain, plain-length}
 
@@ -44,8 +44,8 @@ module _ (w : List ℕ) (g : Good w) where
       list-row w (rowSize w r) (rowFeature w r) (omega arith) ∙ ap (listAt w) e
 
   -- the rows are runs
-  pub rows-fit : Narrow w → RowsFit (rowsIn w)
-  unfolding rowsIn
+  pub rows-fit : Narrow w → RowsFit (allRowsIn w)
+  unfolding allRowsIn
   rows-fit narrow =
       record {
         keys = rw (map-tabulate (λ (r : Row). r .key) (rowIn w) (rowCount w)) (ascending-tabulate (λ (r : ℕ). keyOf (rowSize w r) (rowFeature w r)) (rowCount w) up);

@@ -15,7 +15,7 @@ use Rattle.laws.proofs.Lists.{length-tabulate, tabulate-ext}
 use Rattle.laws.proofs.Images.{tabulate-of, tabulate-part}
 use Rattle.words.specs.Words.{nameCount, rowCount, postingCount, namesStart, nameStart, nameWord, rowsStart, rowStart, rowWidth, rowSize, rowFeature, rowPlace, rowLength, postingsStart, listAt, total, featureSpan}
 use Rattle.index_writer.specs.Built.{Row, noRow, oneRow, longerRow, idSpan, listsOf, rowWords, wordsFrom}
-use Rattle.index_writer.specs.Contents.{namesIn, rowIn, rowsIn, Narrow}
+use Rattle.index_writer.specs.Contents.{namesIn, rowIn, allRowsIn, Narrow}
 use Rattle.index_writer.specs.Plain.{Plain}
 use Rattle.index_writer.proofs.Plain.{plain-length}
 
@@ -241,8 +241,8 @@ module _ (names : List ℕ) (rows : List Row) (rest : List ℕ) where
   unfolding namesIn
   read-names = rw read-name-count (sym (tabulate-of (nameWord (wordsFrom names rows ++ rest)) (length names) 0 names refl (λ i h. sym (read-name i h))))
 
-  pub read-rows : rowsIn (wordsFrom names rows ++ rest) ≡ rows
-  unfolding rowsIn
+  pub read-rows : allRowsIn (wordsFrom names rows ++ rest) ≡ rows
+  unfolding allRowsIn
   read-rows = rw read-row-count (sym (tabulate-of (rowIn (wordsFrom names rows ++ rest)) (length rows) noRow rows refl (λ r h. sym (same r h))))
     where
       key : (r : ℕ) → r < length rows → rowIn (wordsFrom names rows ++ rest) r .key ≡ (getD rows r noRow) .key
@@ -325,8 +325,8 @@ module _ (w : List ℕ) (f : Plain w) (narrow : Narrow w) where
       list : take (rowLength w n) (drop (postingsStart w + rowPlace w n) w) ≡ listAt w n
       list = unfold listAt in refl
 
-  pub words-in : take (total w) w ≡ wordsFrom (namesIn w) (rowsIn w)
-  unfolding wordsFrom namesIn rowsIn nameWord
+  pub words-in : take (total w) w ≡ wordsFrom (namesIn w) (allRowsIn w)
+  unfolding wordsFrom namesIn allRowsIn nameWord
   words-in =
       take-add (postingsStart w) (postingCount w) w
       ∙ ap₂ _++_

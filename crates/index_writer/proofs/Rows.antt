@@ -17,13 +17,13 @@ use Rattle.index_writer.specs.Built.{Row, oneRow, longerRow, idSpan, lis
 use Rattle.index_writer.proofs.Runs.{length-runs}
 use Rattle.index_writer.proofs.Pass.{pass-new, pass-more}
 use Rattle.index_writer.proofs.Read.{length-row-words, row-words-append, words-new, words-more, lists-append}
-use Rattle.index_writer.specs.Steps.{begins, newRow, grownRow, RowsAt}
+use Rattle.index_writer.specs.Steps.{beginsRow, newRow, grownRow, RowsAt}
 
 -- ---- a new row, or a longer one
 
-pub begins-new : (ks : List ℕ) (i : ℕ) → i < length ks → begins ks i ≡ true
+pub begins-new : (ks : List ℕ) (i : ℕ) → i < length ks → beginsRow ks i ≡ true
     → runsOf (take (i + 1) ks) ≡ runsOf (take i ks) ++ (oneRow (getD ks i 0) ∷ [])
-unfolding begins
+unfolding beginsRow
 begins-new ks zero h b = pass-new ks 0 h (λ j e q. omega arith)
 begins-new ks (suc m) h b =
     pass-new ks (suc m) h
@@ -31,13 +31,13 @@ begins-new ks (suc m) h b =
     let z : j ≡ m = omega arith in
     eqb-false (getD ks m 0 / idSpan) (getD ks (suc m) 0 / idSpan) (not-true (eqb (getD ks m 0 / idSpan) (getD ks (suc m) 0 / idSpan)) b) (ap (λ (x : ℕ). getD ks x 0 / idSpan) (sym z) ∙ q))
 
-pub begins-more : (ks : List ℕ) (i : ℕ) → i < length ks → begins ks i ≡ false
+pub begins-more : (ks : List ℕ) (i : ℕ) → i < length ks → beginsRow ks i ≡ false
     → (rs : List Row)
     × (r : Row)
     × (r .key ≡ getD ks i 0 / idSpan)
     × (runsOf (take i ks) ≡ rs ++ (r ∷ []))
     × (runsOf (take (i + 1) ks) ≡ rs ++ (longerRow r (getD ks i 0 % idSpan) ∷ []))
-unfolding begins
+unfolding beginsRow
 begins-more ks zero h b = absurd (true≢false b)
 begins-more ks (suc m) h b =
     let e : m + 1 ≡ suc m = omega arith in
@@ -49,10 +49,10 @@ pub rows-nil : (ks : List ℕ) → length (runsOf (take 0 ks)) ≡ 0
 unfolding runsOf
 rows-nil ks = refl
 
-pub rows-step : (ks : List ℕ) (i : ℕ) → i < length ks → length (runsOf (take (i + 1) ks)) ≡ length (runsOf (take i ks)) + cond (begins ks i) 1 0
-rows-step ks i h = by-test (begins ks i) refl
+pub rows-step : (ks : List ℕ) (i : ℕ) → i < length ks → length (runsOf (take (i + 1) ks)) ≡ length (runsOf (take i ks)) + cond (beginsRow ks i) 1 0
+rows-step ks i h = by-test (beginsRow ks i) refl
   where
-    by-test : (t : Bool) → begins ks i ≡ t → length (runsOf (take (i + 1) ks)) ≡ length (runsOf (take i ks)) + cond t 1 0
+    by-test : (t : Bool) → beginsRow ks i ≡ t → length (runsOf (take (i + 1) ks)) ≡ length (runsOf (take i ks)) + cond t 1 0
     by-test true e = ap length (begins-new ks i h e) ∙ length-append (runsOf (take i ks)) (oneRow (getD ks i 0) ∷ [])
     by-test false e =
         let p = begins-more ks i h e in
@@ -67,7 +67,7 @@ rows-few ks (suc i) h =
     let e : suc i ≡ i + 1 = omega arith in
     let a = rows-few ks i (omega arith) in
     let b = rows-step ks i (omega arith) in
-    let m = cond-most (begins ks i) 1 in
+    let m = cond-most (beginsRow ks i) 1 in
     let f = ap (λ (n : ℕ). length (runsOf (take n ks))) e in
     omega arith
 
@@ -86,11 +86,11 @@ pub at-nil : (ks out : List ℕ) → RowsAt ks 0 0 out
 at-nil ks out = record { count = sym (rows-nil ks); words = λ h. unfold runsOf rowWords in refl }
 
 -- a posting that begins a row
-module _ (ks out : List ℕ) (i d : ℕ) (h : i < length ks) (b : begins ks i ≡ true) (a : RowsAt ks i d out) where
+module _ (ks out : List ℕ) (i d : ℕ) (h : i < length ks) (b : beginsRow ks i ≡ true) (a : RowsAt ks i d out) where
   count-new : d + 1 ≡ length (runsOf (take (i + 1) ks))
   count-new =
       let s = rows-step ks i h in
-      let z : _≡_ {A = ℕ} (cond (begins ks i) 1 0) 1 = ap (λ (t : Bool). cond t 1 0) b in
+      let z : _≡_ {A = ℕ} (cond (beginsRow ks i) 1 0) 1 = ap (λ (t : Bool). cond t 1 0) b in
       let n = a .count in
       omega arith
 
@@ -129,7 +129,7 @@ module _ (ks out : List ℕ) (i d : ℕ) (h : i < length ks) (b : begins ks i �
           c
 
 -- a posting that joins the last row: that row is there, and its count is what stands in its last word
-module _ (ks out : List ℕ) (i d : ℕ) (h : i < length ks) (b : begins ks i ≡ false) (a : RowsAt ks i d out) where
+module _ (ks out : List ℕ) (i d : ℕ) (h : i < length ks) (b : beginsRow ks i ≡ false) (a : RowsAt ks i d out) where
   last-row : (rs : List Row)
       × (r : Row)
       × (r .key ≡ getD ks i 0 / idSpan)

@@ -19,7 +19,7 @@ use Rattle.words.specs.Words.{nameCount, rowCount, nameWord, nameId, nameSize, 
 use Rattle.index.specs.Good.{Good}
 use Rattle.lists.specs.Lists.{featuresIn}
 use Rattle.index_writer.specs.Built.{Entry, noEntry, wordOf, idSpan, tripleOf, allTriples, Row, noRow, triplesFrom, runsOf, wordsFrom, rowsOf, wordsOf, EntryFit, Fit}
-use Rattle.index_writer.specs.Contents.{namesIn, rowIn, rowsIn, entryIn, entriesIn, Narrow}
+use Rattle.index_writer.specs.Contents.{namesIn, rowIn, allRowsIn, entryIn, entriesIn, Narrow}
 use Rattle.index_writer.specs.Plain.{Plain}
 use Rattle.lists.proofs.Laws.{holder-size, features-length, features-row, row-features, features-ascending}
 use Rattle.index_writer.proofs.Plain.{good-plain}
@@ -35,8 +35,8 @@ name-in : (w : List ℕ) (i : ℕ) → i < nameCount w → getD (namesIn w) i 0 
 unfolding namesIn
 name-in w i h = getD-tabulate (nameWord w) (nameCount w) i 0 h
 
-row-in : (w : List ℕ) (r : ℕ) → r < rowCount w → getD (rowsIn w) r noRow ≡ rowIn w r
-unfolding rowsIn
+row-in : (w : List ℕ) (r : ℕ) → r < rowCount w → getD (allRowsIn w) r noRow ≡ rowIn w r
+unfolding allRowsIn
 row-in w r h = getD-tabulate (rowIn w) (rowCount w) r noRow h
 
 entry-in : (w : List ℕ) (i : ℕ) → i < nameCount w → getD (entriesIn w) i noEntry ≡ entryIn w i
@@ -47,8 +47,8 @@ length-names-in : (w : List ℕ) → length (namesIn w) ≡ nameCount w
 unfolding namesIn
 length-names-in w = length-tabulate (nameWord w) (nameCount w)
 
-length-rows-in : (w : List ℕ) → length (rowsIn w) ≡ rowCount w
-unfolding rowsIn
+length-rows-in : (w : List ℕ) → length (allRowsIn w) ≡ rowCount w
+unfolding allRowsIn
 length-rows-in w = length-tabulate (rowIn w) (rowCount w)
 
 length-entries-in : (w : List ℕ) → length (entriesIn w) ≡ nameCount w
@@ -57,10 +57,10 @@ length-entries-in w = length-tabulate (entryIn w) (nameCount w)
 
 -- ---- the postings of any words, by row and by name
 
-rows-in-place : (w : List ℕ) (k : ℕ) → member k (triplesFrom (rowsIn w)) ≡ true
+rows-in-place : (w : List ℕ) (k : ℕ) → member k (triplesFrom (allRowsIn w)) ≡ true
     → (r : ℕ) × (r < rowCount w) × (id : ℕ) × (member id (listAt w r) ≡ true) × (tripleOf (rowSize w r) (rowFeature w r) id ≡ k)
 rows-in-place w k m =
-    let p = triples-place (rowsIn w) k m in
+    let p = triples-place (allRowsIn w) k m in
     let n = length-rows-in w in
     let b = p .1 in
     let h : p .0 < rowCount w = omega arith in
@@ -73,12 +73,12 @@ rows-in-place w k m =
     )
 
 rows-in-member : (w : List ℕ) (r id : ℕ) → r < rowCount w → member id (listAt w r) ≡ true
-    → member (tripleOf (rowSize w r) (rowFeature w r) id) (triplesFrom (rowsIn w)) ≡ true
+    → member (tripleOf (rowSize w r) (rowFeature w r) id) (triplesFrom (allRowsIn w)) ≡ true
 rows-in-member w r id h m =
     let n = length-rows-in w in
     let e = row-in w r h in
-    ap (λ (x : Row). member (x .key * idSpan + id) (triplesFrom (rowsIn w))) (sym e)
-    ∙ triples-member (rowsIn w) r id (omega arith) (ap (λ (x : Row). member id (x .list)) e ∙ m)
+    ap (λ (x : Row). member (x .key * idSpan + id) (triplesFrom (allRowsIn w))) (sym e)
+    ∙ triples-member (allRowsIn w) r id (omega arith) (ap (λ (x : Row). member id (x .list)) e ∙ m)
 
 entries-in-place : (w : List ℕ) (k : ℕ) → member k (allTriples (entriesIn w)) ≡ true
     → (i : ℕ)
@@ -142,14 +142,14 @@ module _ (w : List ℕ) (g : Good w) (narrow : Narrow w) where
       same : (i : ℕ) → i < nameCount w → nameWord w i ≡ wordOf (entryIn w i)
       same i h = let s = features-length w g i h in omega arith
 
-  good-triples : triplesFrom (rowsIn w) ≡ sortOf (allTriples (entriesIn w))
+  good-triples : triplesFrom (allRowsIn w) ≡ sortOf (allTriples (entriesIn w))
   good-triples =
-      ascending-unique (triplesFrom (rowsIn w)) (sortOf (allTriples (entriesIn w)))
-      (triples-ascending (rowsIn w) (rows-fit w g narrow))
+      ascending-unique (triplesFrom (allRowsIn w)) (sortOf (allTriples (entriesIn w)))
+      (triples-ascending (allRowsIn w) (rows-fit w g narrow))
       (ascending-sort (allTriples (entriesIn w)) (distinct-entries (entriesIn w) (good-fit .ids) (good-fit .each)))
-      (λ k. same-test (member k (triplesFrom (rowsIn w))) (member k (allTriples (entriesIn w))) (there k) (back k) ∙ sym (member-sort k (allTriples (entriesIn w))))
+      (λ k. same-test (member k (triplesFrom (allRowsIn w))) (member k (allTriples (entriesIn w))) (there k) (back k) ∙ sym (member-sort k (allTriples (entriesIn w))))
     where
-      there : (k : ℕ) → member k (triplesFrom (rowsIn w)) ≡ true → member k (allTriples (entriesIn w)) ≡ true
+      there : (k : ℕ) → member k (triplesFrom (allRowsIn w)) ≡ true → member k (allTriples (entriesIn w)) ≡ true
       there k m =
           let p = rows-in-place w k m in
           let q = facts .named (p .0) (p .2) (p .1) (p .3) in
@@ -161,7 +161,7 @@ module _ (w : List ℕ) (g : Good w) (narrow : Narrow w) where
           ∙ entries-in-member w (q .0) (rowFeature w (p .0)) (q .1)
           (row-features w (nameId w (q .0)) (p .0) (p .1) (ap (λ (x : ℕ). member x (listAt w (p .0))) (q .2) ∙ p .3))
 
-      back : (k : ℕ) → member k (allTriples (entriesIn w)) ≡ true → member k (triplesFrom (rowsIn w)) ≡ true
+      back : (k : ℕ) → member k (allTriples (entriesIn w)) ≡ true → member k (triplesFrom (allRowsIn w)) ≡ true
       back k m =
           let p = entries-in-place w k m in
           let q = features-row w (nameId w (p .0)) (p .2) (p .3) in
@@ -170,14 +170,14 @@ module _ (w : List ℕ) (g : Good w) (narrow : Narrow w) where
           let e : tripleOf (rowSize w (q .0)) (rowFeature w (q .0)) (nameId w (p .0)) ≡ k =
           ap₂ (λ (y x : ℕ). tripleOf y x (nameId w (p .0))) (t ∙ sym s) (q .3) ∙ p .4
           in
-          ap (λ (x : ℕ). member x (triplesFrom (rowsIn w))) (sym e) ∙ rows-in-member w (q .0) (nameId w (p .0)) (q .1) (q .2)
+          ap (λ (x : ℕ). member x (triplesFrom (allRowsIn w))) (sym e) ∙ rows-in-member w (q .0) (nameId w (p .0)) (q .1) (q .2)
 
-  good-rows : rowsIn w ≡ rowsOf (entriesIn w)
+  good-rows : allRowsIn w ≡ rowsOf (entriesIn w)
   unfolding rowsOf
-  good-rows = sym (runs-unique (rowsIn w) (rows-fit w g narrow)) ∙ ap runsOf good-triples
+  good-rows = sym (runs-unique (allRowsIn w) (rows-fit w g narrow)) ∙ ap runsOf good-triples
 
   -- up to its total, it is written by its own name words and rows
-  pub good-written : take (total w) w ≡ wordsFrom (namesIn w) (rowsIn w)
+  pub good-written : take (total w) w ≡ wordsFrom (namesIn w) (allRowsIn w)
   good-written = words-in w facts narrow
 
   -- up to its total, it is the index of the names and features in it

@@ -17,8 +17,8 @@ abbrev pub rowIn : List ℕ → ℕ → Row
 rowIn w r = record { key = keyOf (rowSize w r) (rowFeature w r); list = listAt w r }
 
 -- the rows, in order
-unfoldable pub rowsIn : List ℕ → List Row
-rowsIn w = tabulate (rowIn w) (rowCount w)
+unfoldable pub allRowsIn : List ℕ → List Row
+allRowsIn w = tabulate (rowIn w) (rowCount w)
 
 -- name i with the features that it stands for
 abbrev pub entryIn : List ℕ → ℕ → Entry

@@ -16,9 +16,9 @@ abbrev pub runKey : List ℕ → ℕ → ℕ
 runKey names k = featureAt k * placeSpan + sizeAt names k
 
 -- whether the posting at place i begins a row: the first does, and one whose size and feature are not those of the posting before it
-unfoldable pub begins : List ℕ → ℕ → Bool
-begins ks zero = true
-begins ks (suc j) = not (eqb (getD ks j 0 / idSpan) (getD ks (suc j) 0 / idSpan))
+unfoldable pub beginsRow : List ℕ → ℕ → Bool
+beginsRow ks zero = true
+beginsRow ks (suc j) = not (eqb (getD ks j 0 / idSpan) (getD ks (suc j) 0 / idSpan))
 
 -- the words with a new row after d others; as they were where there is no room
 unfoldable pub newRow : ℕ → ℕ → ℕ → List ℕ → ℕ → List ℕ

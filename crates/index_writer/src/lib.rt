@@ -9,7 +9,7 @@ ghost use Rattle.index.specs.Good.{mostNames, mostPostings};
 ghost use Rattle.index_writer.specs.Built.{runsOf, rowWords, wordsFrom};
 ghost use Rattle.index_writer.specs.Keys.{placeSpan, wordAt, idAt, triplesAt, Keyed};
 ghost use Rattle.index_writer.specs.Written.{blank, fitsIn, padTo, writtenIn};
-ghost use Rattle.index_writer.specs.Steps.{begins, runKey, newRow, grownRow, RowsAt};
+ghost use Rattle.index_writer.specs.Steps.{beginsRow, runKey, newRow, grownRow, RowsAt};
 
 // A key is its feature times this, and the place of its name, which is below it.
 pub const PLACE_SPAN: u64 = 256;
@@ -36,7 +36,7 @@ fn run_key(names: &[u32], key: u64) -> u64
 // Whether the posting at place i begins a row.
 fn begins_row(names: &[u32], keys: &[u64], i: usize) -> bool
     requires { ⌜ (i < length (now keys)) × Keyed (now names) (now keys) ⌝ }
-    ensures { λ r. ⌜ r ≡ begins (triplesAt (now (names .entry)) (now (keys .entry))) i ⌝ }
+    ensures { λ r. ⌜ r ≡ beginsRow (triplesAt (now (names .entry)) (now (keys .entry))) i ⌝ }
 {
     if i == 0 {
         return true;

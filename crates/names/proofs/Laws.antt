@@ -17,7 +17,7 @@ use Rattle.laws.proofs.Lists.{distinct-nil, length-tabulate, getD-tabulate, dis
 use Rattle.laws.proofs.Cases.{first-passed}
 use Rattle.laws.proofs.Order.{le-or-lt, eq-or-ne}
 use Rattle.names.specs.Names.{longest, nameCases, judgeOf}
-use Rattle.names.specs.Features.{padded, joined, gramAt, sizeOf, timesIn, numberAt, numbers, numbered, featuresBy, gramLength, characters, mostFeatures, featuresOf}
+use Rattle.names.specs.Features.{padded, packed, gramAt, sizeOf, timesIn, numberAt, numbers, numbered, featuresBy, gramLength, characters, mostFeatures, featuresOf}
 use Rattle.names.proofs.Lemmas.{times-met, times-passed, number-within, gram-of, pad-low, pad-at}
 
 -- ---- the judgement of a name, case by case
@@ -168,13 +168,13 @@ distinct-features s =
 
 -- ---- a feature fits 32 bits
 
--- k characters below w, joined, are below w to the k
-joined-below : (w : ℕ) (l : List ℕ) → ((j : ℕ) → getD l j 0 < w) → (i k : ℕ) → joined w l i k < w ^ k
-unfolding joined
-joined-below w l b i zero = rw (pow-zero w) (lit< tt)
-joined-below w l b i (suc k) =
-    let h : suc (joined w l i k) * w ≤ w ^ k * w = mul-le-mul-right w (joined-below w l b i k) in
-    let e : suc (joined w l i k) * w ≡ joined w l i k * w + w = suc-mul (joined w l i k) w in
+-- k characters below w, packed, are below w to the k
+packed-below : (w : ℕ) (l : List ℕ) → ((j : ℕ) → getD l j 0 < w) → (i k : ℕ) → packed w l i k < w ^ k
+unfolding packed
+packed-below w l b i zero = rw (pow-zero w) (lit< tt)
+packed-below w l b i (suc k) =
+    let h : suc (packed w l i k) * w ≤ w ^ k * w = mul-le-mul-right w (packed-below w l b i k) in
+    let e : suc (packed w l i k) * w ≡ packed w l i k * w + w = suc-mul (packed w l i k) w in
     let p : w ^ suc k ≡ w ^ k * w = pow-suc w k in
     let c : getD l (i + k) 0 < w = b (i + k) in
     omega arith
@@ -189,7 +189,7 @@ padded-below g w s b k =
 -- the grams of characters below w are below w to the gram's length
 pub gram-below : (g w : ℕ) (s : List ℕ) → ((j : ℕ) → getD s j 0 < w) → (i : ℕ) → gramAt g w s i < w ^ g
 unfolding gramAt
-gram-below g w s b i = joined-below w (padded g s) (padded-below g w s b) i g
+gram-below g w s b i = packed-below w (padded g s) (padded-below g w s b) i g
 
 -- each feature of a name of bytes fits 32 bits
 pub feature-fits : (s : List ℕ) → ((j : ℕ) → getD s j 0 < characters) → (i : ℕ) → getD (featuresOf s) i 0 < 2 ^ 32

@@ -1,4 +1,4 @@
--- Facts on plain lists and numbers that only this crate needs: the padded name, the joined characters, the count of equal grams, the marks of grams met.
+-- Facts on plain lists and numbers that only this crate needs: the padded name, the packed characters, the count of equal grams, the marks of grams met.
 -- Assumes nothing.
 use mathlib.Core.Path.{_≡_, refl, sym, ap, ap₂, _∙_}
 use mathlib.Core.Logic.{⊎-elim}
@@ -15,7 +15,7 @@ use borrow.Author.Tests.{eq-eqb, ne-eqb}
 use Rattle.laws.proofs.Order.{le-or-lt, eq-or-ne}
 use Rattle.laws.specs.Lists.{tabulate}
 use Rattle.laws.proofs.Lists.{length-tabulate, getD-tabulate, set-tabulate}
-use Rattle.names.specs.Features.{padded, joined, gramAt, timesIn, numberAt, numbers, numbered, gramLength, characters, mostFeatures, featuresBy}
+use Rattle.names.specs.Features.{padded, packed, gramAt, timesIn, numberAt, numbers, numbered, gramLength, characters, mostFeatures, featuresBy}
 use Rattle.names.specs.Set.{filled, marks, Ends}
 use Rattle.names.specs.declared.FeatureSet.{FeatureSet}
 
@@ -60,7 +60,7 @@ pad-at g s k h =
 pub gram-three : (s : List ℕ) (i a b c : ℕ)
     → a ≡ getD (padded gramLength s) i 0 → b ≡ getD (padded gramLength s) (i + 1) 0 → c ≡ getD (padded gramLength s) (i + 2) 0
     → a * 65536 + b * 256 + c ≡ gramAt gramLength characters s i
-unfolding gramAt joined
+unfolding gramAt packed
 gram-three s i a b c p q r =
     let z : getD (padded gramLength s) (i + 0) 0 ≡ a = rw add-zero (sym p) in
     omega arith

@@ -17,13 +17,13 @@ unfoldable pub padded : ℕ → List ℕ → List ℕ
 padded g s = replicate (g - 1) 0 ++ (s ++ replicate (g - 1) 0)
 
 -- the k characters of l from place i on as one number at base w, the first one highest; past the end a character is 0
-unfoldable pub joined : ℕ → List ℕ → ℕ → ℕ → ℕ
-joined w l i zero = 0
-joined w l i (suc k) = joined w l i k * w + getD l (i + k) 0
+unfoldable pub packed : ℕ → List ℕ → ℕ → ℕ → ℕ
+packed w l i zero = 0
+packed w l i (suc k) = packed w l i k * w + getD l (i + k) 0
 
 -- the gram at place i: g characters in a row
 unfoldable pub gramAt : ℕ → ℕ → List ℕ → ℕ → ℕ
-gramAt g w s i = joined w (padded g s) i g
+gramAt g w s i = packed w (padded g s) i g
 
 -- a name of n characters has this many grams
 abbrev pub sizeOf : ℕ → ℕ → ℕ

@@ -9,10 +9,10 @@ use Rattle.laws.specs.Lists.{member, tabulate, sumOf}
 use Rattle.laws.specs.Sort.{insert, sortOf}
 use Rattle.laws.specs.Cases.{firstCase}
 use Rattle.names.specs.Names.{judgeOf}
-use Rattle.names.specs.Features.{padded, joined, gramAt, timesIn, numberAt, numbered, featuresBy, featuresOf}
+use Rattle.names.specs.Features.{padded, packed, gramAt, timesIn, numberAt, numbered, featuresBy, featuresOf}
 use Rattle.hex.specs.Lines.{digitOf, placeIn, valueOf, isDigit, hexOf, hexLine, wellFormed, bytesOf}
 use Rattle.hex.specs.Numbers.{numberOf}
-use Rattle.fields.specs.Layouts.{headSize, nameSize, laidOut, isFrame, fieldsOf, fieldsIn, nameIn}
+use Rattle.fields.specs.Layouts.{headSize, tailSize, laidOut, isFrame, fieldsOf, fieldsIn, nameIn}
 use Rattle.index_writer.specs.Built.{triplesOf, allTriples, joinRow, runsOf, listsOf, rowWords, wordsFrom, rowsOf, wordsOf}
 use Rattle.lines.specs.Lines.{joinLine, linesOf}
 use Rattle.index_writer.specs.Written.{blank}
@@ -81,5 +81,5 @@ examples =
 
 -- every example is what it should be
 examples-right : map (λ (e : Example). e .is) examples ≡ map (λ (e : Example). e .should) examples
-unfolding examples joinLine linesOf nextFrom firstCase judgeLine takeLines takenOf builtOf wordsAfter triplesOf allTriples joinRow runsOf listsOf rowWords wordsFrom rowsOf wordsOf insert sortOf member tabulate sumOf judgeOf padded joined gramAt timesIn numberAt numbered featuresBy featuresOf digitOf placeIn valueOf isDigit hexOf hexLine wellFormed bytesOf numberOf headSize nameSize laidOut isFrame fieldsOf fieldsIn nameIn crowd
+unfolding examples joinLine linesOf nextFrom firstCase judgeLine takeLines takenOf builtOf wordsAfter triplesOf allTriples joinRow runsOf listsOf rowWords wordsFrom rowsOf wordsOf insert sortOf member tabulate sumOf judgeOf padded packed gramAt timesIn numberAt numbered featuresBy featuresOf digitOf placeIn valueOf isDigit hexOf hexLine wellFormed bytesOf numberOf headSize tailSize laidOut isFrame fieldsOf fieldsIn nameIn crowd
 examples-right = refl

@@ -25,7 +25,7 @@ use Rattle.search.proofs.Outcomes.{admitted}
 use Rattle.search.proofs.Listed.{answers-most}
 use Rattle.search.specs.declared.Answer.{Answer}
 use Rattle.search.specs.declared.Answer.the-variants.{Found, Refused}
-use Rattle.rows.specs.Rows.{rowOf, rowsOf, rowAt, rowsFrom, Filled}
+use Rattle.rows.specs.Rows.{rowOf, recordsOf, rowAt, rowsFrom, Filled}
 use Rattle.rows.proofs.Lists.{noRow}
 
 -- ---- how many answers there are
@@ -119,9 +119,9 @@ column-entry f places l rest k h =
     ∙ getD-map-lt f places k 0 0 h
 
 -- columns that start with the places' rows have those rows
-pub columns-rows : (w query places : List ℕ) (c x : Columns) → rowsFrom (length places) (columnsThen (columnsOver (columnsOf w query places) c) x) ≡ rowsOf w query places
+pub columns-rows : (w query places : List ℕ) (c x : Columns) → rowsFrom (length places) (columnsThen (columnsOver (columnsOf w query places) c) x) ≡ recordsOf w query places
 columns-rows w query places c x =
-    sym (tabulate-of (rowAt filled) (length places) noRow (rowsOf w query places) (length-map places (rowOf w query))
+    sym (tabulate-of (rowAt filled) (length places) noRow (recordsOf w query places) (length-map places (rowOf w query))
     (λ k h. getD-map-lt (rowOf w query) places k 0 noRow h ∙ sym (same k h)))
   where
     filled : Columns
@@ -157,7 +157,7 @@ filled s m p q allowance w room n r before after rest cut e li lh lz = record {
   rows =
       (λ t. rowsFrom (counted t) (columnsThen (e .columns t) rest))
       ∙ columns-rows w (featuresOf s) (placesGiven s m p q allowance w (roomOf before)) before rest
-      ∙ ap (λ (x : Answer). rowsOf w (featuresOf s) (givenBy x (answersOf w m p q (featuresOf s)))) same;
+      ∙ ap (λ (x : Answer). recordsOf w (featuresOf s) (givenBy x (answersOf w m p q (featuresOf s)))) same;
   few = comes .2;
   within = comes .1;
 }

@@ -12,7 +12,7 @@ use Rattle.sizes.specs.Method.{sharedWith, answersOf}
 use Rattle.search.specs.Answers.{numberIn, searchOf, Columns, columnsOf, over, columnsOver}
 use Rattle.search.proofs.Outcomes.{refused-gives}
 use Rattle.rows.specs.declared.Row.{Row}
-use Rattle.rows.specs.Rows.{rowOf, rowsOf, overRows, rowsAfter, columnsIn}
+use Rattle.rows.specs.Rows.{rowOf, recordsOf, overRows, rowsAfter, columnsIn}
 
 -- the list is as long as it was
 pub length-over-rows : (given l : List Row) → length given ≤ length l → length (overRows given l) ≡ length l
@@ -38,14 +38,14 @@ row-kept given l k d h =
 pub rows-refused : (query : List ℕ) (m p q allowance : ℕ) (w : List ℕ) (l : List Row) → (numberIn (searchOf query m p q allowance w (length l)) ≡ 0 → ⊥)
     → rowsAfter query m p q allowance w l ≡ l
 rows-refused query m p q allowance w l n =
-    ap (λ (places : List ℕ). overRows (rowsOf w (featuresOf query) places) l) (refused-gives (searchOf query m p q allowance w (length l)) (answersOf w m p q (featuresOf query)) n)
+    ap (λ (places : List ℕ). overRows (recordsOf w (featuresOf query) places) l) (refused-gives (searchOf query m p q allowance w (length l)) (answersOf w m p q (featuresOf query)) n)
 
 -- the records' fields are the columns
-fields : (f : Row → ℕ) (g : ℕ → ℕ) (w query : List ℕ) → ((i : ℕ) → f (rowOf w query i) ≡ g i) → (places : List ℕ) → map f (rowsOf w query places) ≡ map g places
+fields : (f : Row → ℕ) (g : ℕ → ℕ) (w query : List ℕ) → ((i : ℕ) → f (rowOf w query i) ≡ g i) → (places : List ℕ) → map f (recordsOf w query places) ≡ map g places
 fields f g w query e [] = refl
 fields f g w query e (i ∷ places) = λ t. e i t ∷ fields f g w query e places t
 
-pub rows-columns : (w query places : List ℕ) → columnsIn (rowsOf w query places) ≡ columnsOf w query places
+pub rows-columns : (w query places : List ℕ) → columnsIn (recordsOf w query places) ≡ columnsOf w query places
 rows-columns w query places = λ t. record {
   ids = fields (λ r. r .id) (nameId w) w query (λ i. refl) places t;
   shared = fields (λ r. r .shared) (sharedWith w query) w query (λ i. refl) places t;
@@ -66,11 +66,11 @@ over-fields f given l =
     ∙ ap (λ (t : List ℕ). map f given ++ t) (map-drop f (length given) l ∙ ap (λ (n : ℕ). drop n (map f l)) (sym (length-map given f)))
 
 pub over-columns : (w query places : List ℕ) (l : List Row)
-    → columnsIn (overRows (rowsOf w query places) l) ≡ columnsOver (columnsOf w query places) (columnsIn l)
+    → columnsIn (overRows (recordsOf w query places) l) ≡ columnsOver (columnsOf w query places) (columnsIn l)
 over-columns w query places l =
     (λ t. record {
-      ids = over-fields (λ r. r .id) (rowsOf w query places) l t;
-      shared = over-fields (λ r. r .shared) (rowsOf w query places) l t;
-      sizes = over-fields (λ r. r .size) (rowsOf w query places) l t;
+      ids = over-fields (λ r. r .id) (recordsOf w query places) l t;
+      shared = over-fields (λ r. r .shared) (recordsOf w query places) l t;
+      sizes = over-fields (λ r. r .size) (recordsOf w query places) l t;
     })
     ∙ ap (λ (c : Columns). columnsOver c (columnsIn l)) (rows-columns w query places)

@@ -20,8 +20,8 @@ abbrev pub rowOf : List ℕ → List ℕ → ℕ → Row
 rowOf w query i = record { id = nameId w i; shared = sharedWith w query i; size = nameSize w i }
 
 -- the rows of the names at the places
-abbrev pub rowsOf : List ℕ → List ℕ → List ℕ → List Row
-rowsOf w query places = map (rowOf w query) places
+abbrev pub recordsOf : List ℕ → List ℕ → List ℕ → List Row
+recordsOf w query places = map (rowOf w query) places
 
 -- a lent list of rows afterwards: what is given, and after it what stood there
 abbrev pub overRows : List Row → List Row → List Row
@@ -29,7 +29,7 @@ overRows l s = l ++ drop (length l) s
 
 -- what a search leaves in a list that is lent to it
 abbrev pub rowsAfter : List ℕ → ℕ → ℕ → ℕ → ℕ → List ℕ → List Row → List Row
-rowsAfter query m p q allowance w rows = overRows (rowsOf w (featuresOf query) (placesGiven query m p q allowance w (length rows))) rows
+rowsAfter query m p q allowance w rows = overRows (recordsOf w (featuresOf query) (placesGiven query m p q allowance w (length rows))) rows
 
 -- ---- records and columns
 
@@ -48,6 +48,6 @@ rowsFrom n c = tabulate (rowAt c) n
 -- the columns after a search with that room: its answer, and the columns' first rows, as many as it gives, are the given ones
 pub record Filled (query : List ℕ) (m p q allowance : ℕ) (w : List ℕ) (room : ℕ) (r : Answer) (c : Columns) : Type 0 where
   pub answer : r ≡ searchOf query m p q allowance w room
-  pub rows : rowsFrom (rowsIn r) c ≡ rowsOf w (featuresOf query) (placesGiven query m p q allowance w room)
+  pub rows : rowsFrom (rowsIn r) c ≡ recordsOf w (featuresOf query) (placesGiven query m p q allowance w room)
   pub few : rowsIn r ≤ mostNames
   pub within : rowsIn r ≤ room

@@ -30,8 +30,8 @@ use Rattle.lists.specs.Part.{Span, cut}
 use Rattle.lists.specs.Lists.{listIn, spanIn}
 use Rattle.lists.proofs.Laws.{good-named, good-ascending, span-words}
 use Rattle.lists.proofs.Spans.{span-within, span-count}
-use Rattle.candidates.specs.Method.{signatures, signaturePostings, remains, laterCount}
-use Rattle.candidates.specs.Tables.{cutAt, cutLists, Readable, remainsAt, laterTouches, postingsOf}
+use Rattle.candidates.specs.Method.{signatures, signaturePostings, remains, laterCount, postingsOf}
+use Rattle.candidates.specs.Tables.{cutAt, cutLists, Readable, remainsAt, laterTouches}
 use Rattle.candidates.proofs.Candidates.{remains-met}
 use Rattle.candidates.proofs.Counts.{length-cut, getD-cut}
 use Rattle.sizes.specs.Method.{listsFor, remaining, touchesAt}

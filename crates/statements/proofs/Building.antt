@@ -7,6 +7,7 @@ use mathlib.Core.List.{List}
 use Prim.Native.Nat.{ℕ, _≤_, _<_}
 use native.Mathlib.Omega.{arith}
 use lib.ListN.{length, getD}
+use Rattle.hex.specs.Lines.{Bytes}
 use Rattle.laws.specs.Lists.{member}
 use Rattle.laws.proofs.Lists.{count-ext}
 use Rattle.names.specs.Features.{featuresOf}
@@ -25,7 +26,7 @@ use Rattle.search.specs.Answers.{numberIn, rowsIn, refusalOf}
 use Rattle.search.specs.declared.Answer.the-variants.{Refused}
 use Rattle.search.proofs.Answered.{search-refused}
 use Rattle.search.proofs.Outcomes.{admitted}
-use Rattle.statements.specs.Demands.{Lending, columns, records, Question, Bytes, answer, number, after, Answered, RefusedBefore, sharedBy, Reaches, rowIds, Demand2, Accepted, ofBuilt, Builds, sharedWithLine, Listing, EndToEnd}
+use Rattle.statements.specs.Demands.{Lending, columns, records, Question, answer, number, after, Answered, RefusedBefore, sharedBy, Reaches, rowIds, Demand2, Accepted, ofBuilt, Builds, sharedWithLine, Listing, EndToEnd}
 use Rattle.statements.proofs.Lent.{Lends, columns-lend, records-lend}
 use Rattle.statements.proofs.Demands.{refused-first, demands}
 

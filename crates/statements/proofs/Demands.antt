@@ -9,6 +9,7 @@ use native.Mathlib.Omega.{arith}
 use lib.ListN.{length, getD, take, length-map}
 use lib.Dec.{eqb, leb, ltb}
 use borrow.Author.Tests.{eqb-true, ltb-true, lt-ltb, le-ltb}
+use Rattle.hex.specs.Lines.{Bytes}
 use Rattle.laws.specs.Lists.{member, Ascending}
 use Rattle.laws.specs.Cases.{firstCase, allNumbers, allNumbered}
 use Rattle.laws.proofs.Cases.{first-number, first-front, first-behind}
@@ -37,7 +38,7 @@ use Rattle.search.proofs.Answered.{good-past, good-full, good-found, search-ref
 use Rattle.search.proofs.Outcomes.{refused-empty, refused-gives, given-found, Admitted, admitted, Answered as AnsweredOf, answered}
 use Rattle.search.proofs.Listed.{over-taken, over-at, answer-place, answer-ids, answer-listed}
 use Rattle.sizes.proofs.Work.{touches-candidates, candidates-names, touches-all, touches-most, signatures-least}
-use Rattle.statements.specs.Demands.{Lending, columns, records, Question, Bytes, answer, number, steps, found, after, beforeWork, afterWork, refusals, touchesWith, Demand1, sharedBy, Reaches, rowIds, Demand2, withAllowance, leastAt, listsAt, postingsAt, candidatesAt, Demand3, Demands, Searches}
+use Rattle.statements.specs.Demands.{Lending, columns, records, Question, answer, number, steps, found, after, beforeWork, afterWork, refusals, touchesWith, Demand1, sharedBy, Reaches, rowIds, Demand2, withAllowance, leastAt, listsAt, postingsAt, candidatesAt, Demand3, Demands, Searches}
 use Rattle.statements.proofs.Lent.{Lends, columns-lend, records-lend}
 
 -- ---- demand 1

@@ -7,6 +7,7 @@ use Prim.Native.Nat.{ℕ, _*_, _≤_, _<_}
 use native.Mathlib.Omega.{arith}
 use lib.ListN.{length}
 use lib.Dec.{ltb}
+use Rattle.hex.specs.Lines.{Bytes}
 use Rattle.laws.proofs.Below.{sum-below-ext}
 use Rattle.laws.proofs.Passing.{passing-ext}
 use Rattle.names.specs.Features.{featuresOf}
@@ -27,7 +28,7 @@ use Rattle.fields.specs.Layouts.{Fitting, lineOf, longestName}
 use Rattle.fields.proofs.Laws.{fitting-named, frame-written, fields-written, name-written}
 use Rattle.frames.specs.Frames.{queryFrame}
 use Rattle.answers.specs.Output.{answerText, rowsLent, answerOf}
-use Rattle.statements.specs.Demands.{Lending, columns, records, Question, Bytes, GoodThreshold, SameFraction, Fractions, SameFrames}
+use Rattle.statements.specs.Demands.{Lending, columns, records, Question, GoodThreshold, SameFraction, Fractions, SameFrames}
 
 module _ (w : List ℕ) (m p q p′ q′ : ℕ) (good : GoodThreshold p q) (good′ : GoodThreshold p′ q′) (e : p * q′ ≡ p′ * q) where
   g : goodThreshold p q ≡ true

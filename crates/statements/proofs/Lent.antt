@@ -12,7 +12,7 @@ use Rattle.words.specs.Words.{nameId, nameSize}
 use Rattle.sizes.specs.Method.{sharedWith}
 use Rattle.search.specs.Answers.{over, columnsOf, columnsOver}
 use Rattle.search.proofs.Listed.{over-beyond}
-use Rattle.rows.specs.Rows.{rowOf, rowsOf, overRows}
+use Rattle.rows.specs.Rows.{rowOf, recordsOf, overRows}
 use Rattle.rows.specs.declared.Row.{Row}
 use Rattle.rows.proofs.Laws.{over-columns}
 use Rattle.statements.specs.Demands.{Lending, columns, records}
@@ -59,9 +59,9 @@ records-lend =
     record {
       rows = over-columns;
       behind = λ w query places l.
-          let n : length (rowsOf w query places) ≡ length places = length-map places (rowOf w query) in
+          let n : length (recordsOf w query places) ≡ length places = length-map places (rowOf w query) in
           ap (λ (m : ℕ). drop m (records .written w query places l)) (sym n)
-          ∙ drop-append-seam (rowsOf w query places) (drop (length (rowsOf w query places)) l)
+          ∙ drop-append-seam (recordsOf w query places) (drop (length (recordsOf w query places)) l)
           ∙ ap (λ (m : ℕ). drop m l) n;
       none = λ w query l. refl;
       alike = λ w v query places l e. ap (λ (rows : List Row). overRows rows l) (map-members (rowOf w query) (rowOf v query) places e);

@@ -15,7 +15,7 @@ use lib.Dec.{eqb, ltb}
 use Rattle.laws.specs.Lists.{member, Ascending, countOf, sumOf}
 use Rattle.laws.specs.Filter.{filterOf}
 use Rattle.laws.specs.Cases.{Case, case, firstCase}
-use Rattle.names.specs.Features.{characters, featuresOf}
+use Rattle.names.specs.Features.{featuresOf}
 use Rattle.names.specs.Shared.{sharedOf}
 use Rattle.likeness.specs.Measures.{measureOf}
 use Rattle.likeness.specs.Sizes.{isSearched}
@@ -26,6 +26,7 @@ use Rattle.words.specs.Words.{nameCount, nameId, nameSize, total}
 use Rattle.index.specs.Good.{Good, mostPostings}
 use Rattle.index_writer.specs.Built.{wordsOf}
 use Rattle.lists.specs.Lists.{listIn, featuresIn}
+use Rattle.hex.specs.Lines.{Bytes}
 use Rattle.fields.specs.Layouts.{isFrame, nameIn, lineOf, readOf, bufferOf, longestName}
 use Rattle.frames.specs.Frames.{nameFrame, queryFrame, rowFrame, endFrame, refusalFrame, layouts, nameOut, queryOut, rowOut, endOut, refusalOut}
 use Rattle.frames.specs.declared.NameRead.{NameRead}
@@ -39,7 +40,7 @@ use Rattle.candidates.specs.Method.{signatures, signaturePostings}
 use Rattle.sizes.specs.Method.{namesOf, listsFor, remaining, touchesOfSize, touchesOf, answersOf}
 use Rattle.search.specs.Answers.{numberIn, rowsIn, touchesIn, thresholdP, thresholdQ, refusalCases, searchOf, givenBy, Columns, roomOf, columnsOf, columnsOver}
 use Rattle.search.specs.declared.Answer.{Answer}
-use Rattle.rows.specs.Rows.{rowsOf, overRows, columnsIn}
+use Rattle.rows.specs.Rows.{recordsOf, overRows, columnsIn}
 use Rattle.rows.specs.declared.Row.{Row as Record}
 use Rattle.answers.specs.Output.{answerOf}
 
@@ -73,7 +74,7 @@ records =
       room = λ (l : List Record). length l;
       rows = columnsIn;
       behind = λ (n : ℕ) (l : List Record). drop n l;
-      written = λ (w query places : List ℕ) (l : List Record). overRows (rowsOf w query places) l;
+      written = λ (w query places : List ℕ) (l : List Record). overRows (recordsOf w query places) l;
     }
 
 -- ---- a search
@@ -91,10 +92,6 @@ pub record Question (A : Type 0) : Type 0 where
 -- a statement of every question, with columns and with records
 abbrev pub Every : ((A : Type 0) → Lending A → Question A → Type 0) → Type 0
 Every P = ((a : Question Columns) → P Columns columns a) × ((a : Question (List Record)) → P (List Record) records a)
-
--- the query is bytes
-abbrev pub Bytes : List ℕ → Type 0
-Bytes s = (j : ℕ) → getD s j 0 < characters
 
 -- the answer
 abbrev pub answer : {A : Type 0} → Lending A → Question A → Answer

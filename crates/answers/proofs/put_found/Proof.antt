@@ -7,7 +7,7 @@ use lib.ListN.{length, take, drop, length-append, length-drop}
 use lib.Seq.{length-take-le}
 use borrow.Rule.Slice.PartMut.{putMid}
 use Rattle.search.specs.Answers.{asColumns}
-use Rattle.frames.specs.Frames.{rowLength, endLength}
+use Rattle.frames.specs.Frames.{rowLineLength, endLineLength}
 use Rattle.answers.specs.Output.{rowsText, endLine, foundText}
 use Rattle.answers.proofs.Text.{length-rows, length-found, end-exact, put-end, fitting-none, fitted-none, fitting-all, fitted-found}
 use borrow.Author.Needs.{needs}
@@ -35,14 +35,14 @@ slice-aggregate-put-rows : tie.Need-slice-aggregate-put-rows
 slice-aggregate-put-rows c =
     let a = c .before .before .before .before .before .before .args in
     let h = c .before .if1 .left in
-    sym (length-take-le (rowLength * a .rows) (a .out .now) (omega arith))
+    sym (length-take-le (rowLineLength * a .rows) (a .out .now) (omega arith))
 
 put-rows-requires : tie.Need-put-rows-requires
 put-rows-requires c κs =
     let b = c .before .before .before .before .before .before in
     let a = b .args in
     let h = c .before .if1 .left in
-    (b .pre, length-take-le (rowLength * a .rows) (a .out .now) (omega arith))
+    (b .pre, length-take-le (rowLineLength * a .rows) (a .out .now) (omega arith))
 
 sub-write-end : tie.Need-sub-write-end
 sub-write-end c = search needs
@@ -70,18 +70,18 @@ returns-2 c =
     let y = c .before .before .before .before .before .before .put-rows in
     let r = y .last .1 .1 .1 .1 .0 in
     let e = length-rows (asColumns (a .ids .now) (a .shared .now) (a .sizes .now)) (a .rows) in
-    let l : length r ≡ rowLength * a .rows = ap length (y .ensures) ∙ e in
-    let k : (rowLength * a .rows + endLength) - rowLength * a .rows ≡ endLength = omega arith in
-    let u = r ++ drop (rowLength * a .rows) (a .out .now) in
-    let v = length-append r (drop (rowLength * a .rows) (a .out .now)) in
-    let w = length-drop (rowLength * a .rows) (a .out .now) in
-    let x = length-drop (rowLength * a .rows) u in
-    let t = length-take-le ((rowLength * a .rows + endLength) - rowLength * a .rows) (drop (rowLength * a .rows) u) (omega arith) in
+    let l : length r ≡ rowLineLength * a .rows = ap length (y .ensures) ∙ e in
+    let k : (rowLineLength * a .rows + endLineLength) - rowLineLength * a .rows ≡ endLineLength = omega arith in
+    let u = r ++ drop (rowLineLength * a .rows) (a .out .now) in
+    let v = length-append r (drop (rowLineLength * a .rows) (a .out .now)) in
+    let w = length-drop (rowLineLength * a .rows) (a .out .now) in
+    let x = length-drop (rowLineLength * a .rows) u in
+    let t = length-take-le ((rowLineLength * a .rows + endLineLength) - rowLineLength * a .rows) (drop (rowLineLength * a .rows) u) (omega arith) in
     let z = c .before .before .write-end in (
-      fitting-all (foundText (a .rows) (a .touches) (a .p) (a .q) (asColumns (a .ids .now) (a .shared .now) (a .sizes .now))) (length (a .out .now)) (rowLength * a .rows + endLength) (length-found (a .rows) (a .touches) (a .p) (a .q) (asColumns (a .ids .now) (a .shared .now) (a .sizes .now))) (omega arith),
-      put-end r (a .out .now) (z .last .0) (endLine (a .rows) (a .touches) (a .p) (a .q)) (rowLength * a .rows) ((rowLength * a .rows + endLength) - rowLength * a .rows) l k
-          (z .ensures .1 ∙ end-exact (a .rows) (a .touches) (a .p) (a .q) (take ((rowLength * a .rows + endLength) - rowLength * a .rows) (drop (rowLength * a .rows) u)) (t ∙ k))
-          ∙ ap (λ (s : List ℕ). (s ++ endLine (a .rows) (a .touches) (a .p) (a .q)) ++ drop (rowLength * a .rows + endLength) (a .out .now)) (y .ensures)
+      fitting-all (foundText (a .rows) (a .touches) (a .p) (a .q) (asColumns (a .ids .now) (a .shared .now) (a .sizes .now))) (length (a .out .now)) (rowLineLength * a .rows + endLineLength) (length-found (a .rows) (a .touches) (a .p) (a .q) (asColumns (a .ids .now) (a .shared .now) (a .sizes .now))) (omega arith),
+      put-end r (a .out .now) (z .last .0) (endLine (a .rows) (a .touches) (a .p) (a .q)) (rowLineLength * a .rows) ((rowLineLength * a .rows + endLineLength) - rowLineLength * a .rows) l k
+          (z .ensures .1 ∙ end-exact (a .rows) (a .touches) (a .p) (a .q) (take ((rowLineLength * a .rows + endLineLength) - rowLineLength * a .rows) (drop (rowLineLength * a .rows) u)) (t ∙ k))
+          ∙ ap (λ (s : List ℕ). (s ++ endLine (a .rows) (a .touches) (a .p) (a .q)) ++ drop (rowLineLength * a .rows + endLineLength) (a .out .now)) (y .ensures)
           ∙ fitted-found (a .rows) (a .touches) (a .p) (a .q) (asColumns (a .ids .now) (a .shared .now) (a .sizes .now)) (a .out .now) (omega arith),
     )
 

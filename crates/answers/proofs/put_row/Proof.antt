@@ -4,7 +4,7 @@ use Prim.Native.Nat.{_+_, _-_, _*_}
 use native.Mathlib.Omega.{arith}
 use lib.ListN.{length, take, drop, length-drop}
 use lib.Seq.{length-take-le}
-use Rattle.frames.specs.Frames.{rowLength}
+use Rattle.frames.specs.Frames.{rowLineLength}
 use Rattle.answers.specs.Output.{rowLine}
 use Rattle.answers.proofs.Text.{row-exact, put-line}
 use borrow.Author.Needs.{needs}
@@ -47,11 +47,11 @@ returns c =
     let a = b .args in
     let w = a .out .now in
     let p = b .pre .4 in
-    let k : (rowLength * a .k + rowLength) - rowLength * a .k ≡ rowLength = omega arith in
-    let n = length-drop (rowLength * a .k) w in
-    let l = length-take-le ((rowLength * a .k + rowLength) - rowLength * a .k) (drop (rowLength * a .k) w) (omega arith) in
-    put-line (rowLength * a .k) ((rowLength * a .k + rowLength) - rowLength * a .k) w (c .before .before .write-row .last .0) (rowLine (a .id) (a .shared) (a .size)) k
-    (c .before .before .write-row .ensures .1 ∙ row-exact (a .id) (a .shared) (a .size) (take ((rowLength * a .k + rowLength) - rowLength * a .k) (drop (rowLength * a .k) w)) (l ∙ k))
+    let k : (rowLineLength * a .k + rowLineLength) - rowLineLength * a .k ≡ rowLineLength = omega arith in
+    let n = length-drop (rowLineLength * a .k) w in
+    let l = length-take-le ((rowLineLength * a .k + rowLineLength) - rowLineLength * a .k) (drop (rowLineLength * a .k) w) (omega arith) in
+    put-line (rowLineLength * a .k) ((rowLineLength * a .k + rowLineLength) - rowLineLength * a .k) w (c .before .before .write-row .last .0) (rowLine (a .id) (a .shared) (a .size)) k
+    (c .before .before .write-row .ensures .1 ∙ row-exact (a .id) (a .shared) (a .size) (take ((rowLineLength * a .k + rowLineLength) - rowLineLength * a .k) (drop (rowLineLength * a .k) w)) (l ∙ k))
 
 pub put-row-spec : {M : Type 1} → statement M
 put-row-spec =

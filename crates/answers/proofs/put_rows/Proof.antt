@@ -6,14 +6,14 @@ use native.Mathlib.Omega.{arith}
 use borrow.Author.Needs.{needs}
 use lib.ListN.{length, take, drop, length-append, length-drop}
 use Rattle.search.specs.Answers.{asColumns}
-use Rattle.frames.specs.Frames.{rowLength}
+use Rattle.frames.specs.Frames.{rowLineLength}
 use Rattle.answers.specs.Output.{rowText, rowsText}
 use Rattle.answers.proofs.Text.{length-rows, rows-none, rows-more, rows-all}
 use Rattle.answers.proofs.put_rows.Statement.{statement}
 use Rattle.answers.proofs.put_rows.Tie as tie
 
 abbrev Inv-loop : tie.InvT-loop
-Inv-loop ids shared sizes n out₀ k₀ out k = (k ≤ n) × (out ≡ rowsText (asColumns ids shared sizes) k ++ drop (rowLength * k) out₀)
+Inv-loop ids shared sizes n out₀ k₀ out k = (k ≤ n) × (out ≡ rowsText (asColumns ids shared sizes) k ++ drop (rowLineLength * k) out₀)
 
 abbrev μ-loop : tie.MeasureT-loop
 μ-loop ids shared sizes n out₀ k₀ out k = n - k
@@ -60,9 +60,9 @@ put-row-requires c κs =
     let few = p .few in
     let n = b .pre .1 in
     let e = ap length (l .inv .1) in
-    let f = length-append (rowsText (asColumns (a .ids .now) (a .shared .now) (a .sizes .now)) (l .k)) (drop (rowLength * l .k) (a .out .now)) in
+    let f = length-append (rowsText (asColumns (a .ids .now) (a .shared .now) (a .sizes .now)) (l .k)) (drop (rowLineLength * l .k) (a .out .now)) in
     let g = length-rows (asColumns (a .ids .now) (a .shared .now) (a .sizes .now)) (l .k) in
-    let h = length-drop (rowLength * l .k) (a .out .now) in
+    let h = length-drop (rowLineLength * l .k) (a .out .now) in
     (p .id (l .k) t, p .share (l .k) t, p .size (l .k) t, omega arith, omega arith)
 
 add-k : tie.Need-add-k Inv-loop μ-loop
@@ -87,7 +87,7 @@ loop-again c =
     let line = rowText (asColumns (a .ids .now) (a .shared .now) (a .sizes .now)) k in (
       omega arith,
       c .before .before .put-row .ensures
-          ∙ ap (λ (s : List ℕ). take (rowLength * k) s ++ (line ++ drop (rowLength * k + rowLength) s)) (l .inv .1)
+          ∙ ap (λ (s : List ℕ). take (rowLineLength * k) s ++ (line ++ drop (rowLineLength * k + rowLineLength) s)) (l .inv .1)
           ∙ rows-more (asColumns (a .ids .now) (a .shared .now) (a .sizes .now)) (a .out .now) k (omega arith),
     )
 
@@ -99,9 +99,9 @@ same-length c =
     let n = b .pre .1 in
     let i = l .inv .0 in
     let e = ap length (l .inv .1) in
-    let f = length-append (rowsText (asColumns (a .ids .now) (a .shared .now) (a .sizes .now)) (l .k)) (drop (rowLength * l .k) (a .out .now)) in
+    let f = length-append (rowsText (asColumns (a .ids .now) (a .shared .now) (a .sizes .now)) (l .k)) (drop (rowLineLength * l .k) (a .out .now)) in
     let g = length-rows (asColumns (a .ids .now) (a .shared .now) (a .sizes .now)) (l .k) in
-    let h = length-drop (rowLength * l .k) (a .out .now) in
+    let h = length-drop (rowLineLength * l .k) (a .out .now) in
     let r : length (l .out) ≡ length (a .out .now) = omega arith in
     r
 
@@ -114,7 +114,7 @@ returns c =
     let i = l .inv .0 in
     let k : l .k ≡ a .n = omega arith in
     l .inv .1
-    ∙ ap (λ (m : ℕ). rowsText (asColumns (a .ids .now) (a .shared .now) (a .sizes .now)) m ++ drop (rowLength * m) (a .out .now)) k
+    ∙ ap (λ (m : ℕ). rowsText (asColumns (a .ids .now) (a .shared .now) (a .sizes .now)) m ++ drop (rowLineLength * m) (a .out .now)) k
     ∙ rows-all (asColumns (a .ids .now) (a .shared .now) (a .sizes .now)) (a .out .now) (a .n) (b .pre .1)
 
 pub put-rows-spec : {M : Type 1} → statement M

@@ -9,7 +9,8 @@ use lib.Seq.{length-take-le}
 use Rattle.laws.specs.Lists.{sumOf, tabulate}
 use Rattle.laws.proofs.Lists.{length-tabulate}
 use Rattle.index.specs.Good.{mostNames}
-use Rattle.candidates.specs.Tables.{MetBy, tallied, cutAt, cutLists, heldTable, postingsOf, Gathered}
+use Rattle.candidates.specs.Method.{postingsOf}
+use Rattle.candidates.specs.Tables.{MetBy, tallied, cutAt, cutLists, heldTable, Gathered}
 use Rattle.candidates.proofs.Spending.{spend-within, spend-over}
 use Rattle.candidates.proofs.Tables.{met-nil}
 use Rattle.candidates.proofs.Counts.{postings-step, postings-up, held-table-nil, held-table-step, held-table-most, length-cut, getD-cut, zero-table}

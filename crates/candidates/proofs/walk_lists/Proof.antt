@@ -7,9 +7,9 @@ use native.Mathlib.Omega.{arith}
 use borrow.Author.Needs.{needs}
 use lib.ListN.{length, take}
 use Rattle.index.specs.Good.{mostNames}
-use Rattle.candidates.specs.Method.{signatures, laterCount}
+use Rattle.candidates.specs.Method.{signatures, laterCount, postingsOf}
 use Rattle.candidates.specs.Spending.{Spending}
-use Rattle.candidates.specs.Tables.{cutLists, heldTable, laterTouches, postingsOf, kept}
+use Rattle.candidates.specs.Tables.{cutLists, heldTable, laterTouches, kept}
 use Rattle.candidates.proofs.Spending.{spent-most, spend-more, spend-both}
 use Rattle.candidates.proofs.Counts.{length-cut, remain-starts, length-remain}
 use Rattle.candidates.proofs.walk_lists.Statement.{statement}

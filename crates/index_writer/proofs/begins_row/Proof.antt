@@ -8,14 +8,14 @@ use lib.ListN.{length, getD}
 use lib.Dec.{eqb}
 use Rattle.index_writer.specs.Built.{idSpan}
 use Rattle.index_writer.specs.Keys.{triplesAt}
-use Rattle.index_writer.specs.Steps.{begins}
+use Rattle.index_writer.specs.Steps.{beginsRow}
 use Rattle.index_writer.proofs.Keys.{same-row}
 use borrow.Author.Needs.{needs}
 use Rattle.index_writer.proofs.begins_row.Statement.{statement}
 use Rattle.index_writer.proofs.begins_row.Tie as tie
 
 returns : tie.Need-returns
-unfolding begins
+unfolding beginsRow
 returns c = rw (c .if1 .taken)
 
 sub-run-key : tie.Need-sub-run-key
@@ -46,7 +46,7 @@ run-key-requires-2 c κs =
     b .pre .1 .named (b .args .i) (b .pre .0)
 
 returns-2 : tie.Need-returns-2
-unfolding begins
+unfolding beginsRow
 returns-2 c =
     let b = c .before .before .before .before .before .before .before in
     let n = c .before .before .before .before .if1 .left in
@@ -56,7 +56,7 @@ returns-2 c =
     let ts = triplesAt (a .names .now) (a .keys .now) in
     ap₂ (λ (x y : ℕ). not (eqb x y)) (c .before .before .run-key .ensures) (c .run-key2 .ensures)
     ∙ ap not (same-row (b .pre .1) (a .i - 1) (a .i) (omega arith) h)
-    ∙ sym (ap (begins ts) e ∙ ap (λ (k : ℕ). not (eqb (getD ts (a .i - 1) 0 / idSpan) (getD ts k 0 / idSpan))) (sym e))
+    ∙ sym (ap (beginsRow ts) e ∙ ap (λ (k : ℕ). not (eqb (getD ts (a .i - 1) 0 / idSpan) (getD ts k 0 / idSpan))) (sym e))
 
 pub begins-row-spec : {M : Type 1} → statement M
 begins-row-spec =

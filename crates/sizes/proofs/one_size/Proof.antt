@@ -10,8 +10,8 @@ use borrow.Author.Tests.{leb-false, not-true, not-false}
 use lib.ListN.{length, getD}
 use Rattle.laws.specs.Lists.{Ascending}
 use Rattle.index.specs.Good.{mostNames}
-use Rattle.candidates.specs.Method.{signatures, laterCount}
-use Rattle.candidates.specs.Tables.{Readable, cutLists, postingsOf, laterTouches, remainTable, kept, Walked}
+use Rattle.candidates.specs.Method.{signatures, laterCount, postingsOf}
+use Rattle.candidates.specs.Tables.{Readable, cutLists, laterTouches, remainTable, kept, Walked}
 use Rattle.sizes.specs.Method.{listsFor, touchesAt}
 use Rattle.sizes.specs.Tables.{filledOf, idsOf, Asked, Sized}
 use Rattle.candidates.proofs.Spending.{spend-within}
