@@ -2,6 +2,7 @@ pub mod Figures
 pub mod Lent
 pub mod Demands
 pub mod Fractions
+pub mod Listing
 pub mod Building
 pub mod Beyond
 pub mod Frames

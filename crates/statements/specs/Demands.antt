@@ -1,6 +1,6 @@
 -- The demands on a search, in full: what a reader has to believe, and nothing of how it is shown. What each demand assumes stands here too:
--- `Searches`, `Fractions`, `SameFrames`, `Beyond`, `Builds`, `EndToEnd` and `Frames` are types with nothing left open, and each is proved as it
--- stands by a theorem of proofs/.
+-- `Searches`, `Fractions`, `SameFrames`, `Beyond`, `Listings`, `Builds`, `EndToEnd` and `Frames` are types with nothing left open, and each is proved
+-- as it stands by a theorem of proofs/.
 -- The functions `search` and `search_rows` answer `answer` and leave `after`, for every input, by their contracts; the first is lent `columns`,
 -- the second `records`, and all that is said of a search is said of both.
 -- A list of bytes is a list of numbers below 256; every lent slice of bytes is one.
@@ -322,6 +322,46 @@ SameWords A s a = (other : List ℕ) → total (a .words) ≤ length other → t
 abbrev pub Beyond : Type 0
 Beyond = Every SameWords
 
+-- ---- names, and an index that holds them
+
+-- names as one who asks may know them: how many there are, and of each, counted from 0, its id and its features
+pub record Names : Type 0 where
+  pub count : ℕ
+  pub id : ℕ → ℕ
+  pub features : ℕ → List ℕ
+
+-- the words hold these names: one for each, in order, with its id, its size, and just its features
+pub record Holds (words : List ℕ) (names : Names) : Type 0 where
+  pub count : nameCount words ≡ names .count
+  pub id : (i : ℕ) → i < names .count → nameId words i ≡ names .id i
+  pub size : (i : ℕ) → i < names .count → nameSize words i ≡ length (names .features i)
+  pub features : (i f : ℕ) → i < names .count → member f (featuresIn words (names .id i)) ≡ member f (names .features i)
+
+-- how many of the query's features name i has
+abbrev pub sharedWithName : {A : Type 0} → Names → Question A → ℕ → ℕ
+sharedWithName names a i = sharedOf (featuresOf (a .query)) (names .features i)
+
+-- listed are exactly those of the names that are similar by their features, each with its true shared count and size, by ascending id
+pub record Listing {A : Type 0} (s : Lending A) (names : Names) (a : Question A) : Type 0 where
+  pub exactly : (i : ℕ) → i < names .count
+      → (member (names .id i) (rowIds s a) ≡ true)
+      ↔ Reaches a (length (featuresOf (a .query))) (length (names .features i)) (sharedWithName names a i)
+  pub true-rows : (j : ℕ) → j < rowsIn (answer s a)
+      → (i : ℕ)
+      × (i < names .count)
+      × (getD (s .rows (after s a) .ids) j 0 ≡ names .id i)
+      × (getD (s .rows (after s a) .shared) j 0 ≡ sharedWithName names a i)
+      × (getD (s .rows (after s a) .sizes) j 0 ≡ length (names .features i))
+  pub ascending : Ascending (rowIds s a)
+  -- names with the same features, as equal names under two ids have them, are listed both or neither
+  pub twins : (i j : ℕ) → i < names .count → j < names .count → names .features i ≡ names .features j
+      → (member (names .id i) (rowIds s a) ≡ true)
+      ↔ (member (names .id j) (rowIds s a) ≡ true)
+
+-- so of every answered search of words that hold the names: proved by `listings`
+abbrev pub Listings : Type 0
+Listings = (names : Names) → Every (λ A s a. Holds (a .words) names → Bytes (a .query) → Answered s a → Listing s names a)
+
 -- ---- a build
 
 -- an accepted build
@@ -331,6 +371,15 @@ Accepted register words = builtOf register (length words) .number ≡ 0
 -- the same question, asked of the words that a build leaves
 abbrev pub ofBuilt : {A : Type 0} → List ℕ → List ℕ → Question A → Question A
 ofBuilt register words a = withWords (wordsAfter register words) a
+
+-- the names of a register's lines, by their own features
+abbrev pub ofRegister : List ℕ → Names
+ofRegister register =
+    record {
+      count = length (linesOf register);
+      id = λ (i : ℕ). idIn (nthLine register i);
+      features = λ (i : ℕ). featuresOf (nameOf (nthLine register i));
+    }
 
 -- line i of the register, from 0, is judged after the lines before it: 11, 1, 2, 3, 9, 10 in that order, or 0
 pub record Building (register words : List ℕ) : Type 0 where
@@ -342,14 +391,9 @@ pub record Building (register words : List ℕ) : Type 0 where
       → builtOf register (length words) ≡ record { number = 8; line = 0 }
   pub room : ((j : ℕ) → j < length (linesOf register) → judgeNth register j ≡ 0) → length (wordsOf (map entryOf (linesOf register))) ≤ length words
       → builtOf register (length words) ≡ record { number = 0; line = 0 }
-  -- accepted words are a good index, with a name for each line: its id, its size, and its own features
+  -- accepted words are a good index, and hold the names of the lines
   pub good : Accepted register words → Good (wordsAfter register words)
-  pub count : Accepted register words → nameCount (wordsAfter register words) ≡ length (linesOf register)
-  pub id : Accepted register words → (i : ℕ) → i < length (linesOf register) → nameId (wordsAfter register words) i ≡ idIn (nthLine register i)
-  pub size : Accepted register words → (i : ℕ) → i < length (linesOf register)
-      → nameSize (wordsAfter register words) i ≡ length (featuresOf (nameOf (nthLine register i)))
-  pub features : Accepted register words → (i f : ℕ) → i < length (linesOf register)
-      → member f (featuresIn (wordsAfter register words) (idIn (nthLine register i))) ≡ member f (featuresOf (nameOf (nthLine register i)))
+  pub holds : Accepted register words → Holds (wordsAfter register words) (ofRegister register)
   -- a refused build sets every word, and every search of those words is refused before its work is counted
   pub every-word : (Accepted register words → ⊥) → wordsAfter register words ≡ replicate (length words) 4294967295
   pub refused : (Accepted register words → ⊥) → Every (λ A s a. RefusedBefore s (ofBuilt register words a))
@@ -360,31 +404,10 @@ Builds = (register words : List ℕ) → Building register words
 
 -- ---- end to end
 
--- how many of the query's features the name of line i has
-abbrev pub sharedWithLine : {A : Type 0} → List ℕ → Question A → ℕ → ℕ
-sharedWithLine register a i = sharedOf (featuresOf (a .query)) (featuresOf (nameOf (nthLine register i)))
-
--- listed are exactly the register's names that are similar by their own features
-pub record Listing {A : Type 0} (s : Lending A) (register words : List ℕ) (a : Question A) : Type 0 where
-  pub exactly : (i : ℕ) → i < length (linesOf register)
-      → (member (idIn (nthLine register i)) (rowIds s (ofBuilt register words a)) ≡ true)
-      ↔ Reaches a (length (featuresOf (a .query))) (length (featuresOf (nameOf (nthLine register i)))) (sharedWithLine register a i)
-  pub true-rows : (j : ℕ) → j < rowsIn (answer s (ofBuilt register words a))
-      → (i : ℕ)
-      × (i < length (linesOf register))
-      × (getD (s .rows (after s (ofBuilt register words a)) .ids) j 0 ≡ idIn (nthLine register i))
-      × (getD (s .rows (after s (ofBuilt register words a)) .shared) j 0 ≡ sharedWithLine register a i)
-      × (getD (s .rows (after s (ofBuilt register words a)) .sizes) j 0 ≡ length (featuresOf (nameOf (nthLine register i))))
-  pub ascending : Ascending (rowIds s (ofBuilt register words a))
-  -- equal names under two ids are listed both or neither
-  pub twins : (i j : ℕ) → i < length (linesOf register) → j < length (linesOf register) → nameOf (nthLine register i) ≡ nameOf (nthLine register j)
-      → (member (idIn (nthLine register i)) (rowIds s (ofBuilt register words a)) ≡ true)
-      ↔ (member (idIn (nthLine register j)) (rowIds s (ofBuilt register words a)) ≡ true)
-
--- so of every answered search of an accepted register's index: proved by `end-to-end`
+-- so of every answered search of an accepted register's index, and of the names of its lines: proved by `end-to-end`
 abbrev pub EndToEnd : Type 0
 EndToEnd = (register words : List ℕ)
-    → Every (λ A s a. Bytes (a .query) → Accepted register words → Answered s (ofBuilt register words a) → Listing s register words a)
+    → Every (λ A s a. Bytes (a .query) → Accepted register words → Answered s (ofBuilt register words a) → Listing s (ofRegister register) (ofBuilt register words a))
 
 -- ---- the frames
 

@@ -16,7 +16,7 @@ use Rattle.lines.specs.Lines.{linesOf, joined}
 use Rattle.register.specs.Build.{builtOf, wordsAfter}
 use Rattle.search.specs.Answers.{rowsIn, Columns}
 use Rattle.answers.specs.Output.{mostInput, programWords, rowsLent, registerOf, queriesOf, queryIn, measureIn, pIn, qIn, allowanceIn, rowText, endLine, refusalLine, answerOf, endsAnswer, outputOf}
-use Rattle.statements.specs.Demands.{columns, Question, answer, steps, after, refusals, Answered, touchesWith, Accepted, ofBuilt, Listing}
+use Rattle.statements.specs.Demands.{columns, Question, answer, steps, after, refusals, Answered, touchesWith, Accepted, ofRegister, ofBuilt, Listing}
 
 -- the words of the program's index, as they are lent to the build
 abbrev pub indexWords : List ℕ
@@ -74,7 +74,7 @@ pub record AnswerTo (input line : List ℕ) : Type 0 where
       ≡ tabulate (rowTo input line) (rowsTo input line)
       ++ (endLine (rowsTo input line) (steps (asked input line)) (lowestTerms (pIn line) (qIn line) .p) (lowestTerms (pIn line) (qIn line) .q) ∷ [])
   -- and those rows are of exactly the register's names that are similar, with their true counts, by ascending id
-  pub listed : isFrame queryFrame line ≡ true → Answered columns (asked input line) → Listing columns (registerOf input) indexWords (asks line)
+  pub listed : isFrame queryFrame line ≡ true → Answered columns (asked input line) → Listing columns (ofRegister (registerOf input)) (asked input line)
   -- in each case exactly one of the lines is a 45 or a 58 frame
   pub once : countOf endsAnswer (linesTo input line) ≡ 1
 
