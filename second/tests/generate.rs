@@ -134,6 +134,21 @@ fn damage_makes_a_line_malformed() {
     }
 }
 
+/// A line that is damaged already, and so may be short, is damaged once more.
+#[test]
+fn short_lines_are_damaged_too() {
+    for line in [&b"4E000A044C414E45"[..], b"51010008000D0000000F044C414E45"] {
+        for length in 3..line.len() {
+            let short = [&line[..length], b"\n"].concat();
+            for (what, damage) in DAMAGES {
+                for at in 0..20 {
+                    assert_ne!(damage(&mut Random::of(SEED, 9, at), &short), short, "{what}");
+                }
+            }
+        }
+    }
+}
+
 /// A check of an index that leaves a condition out is found out by the generated words, for each condition but the
 /// bound on postings, which follows from the others.
 #[test]
