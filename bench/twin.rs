@@ -39,6 +39,7 @@ fn judge(name: &[u8]) -> u8 {
         0 => 1,
         65.. => 2,
         _ if name.contains(&0) => 3,
+        _ if name.iter().any(|byte| *byte < 32 || *byte == 127) => 12,
         _ => 0,
     }
 }

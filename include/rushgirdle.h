@@ -45,7 +45,8 @@ enum rushgirdle_number {
     RUSHGIRDLE_ROOM = 8,       /* search: more answers than rows lent; build: the index exceeds the words; frames: the line or the name exceeds its buffer */
     RUSHGIRDLE_ORDER = 9,      /* a register id is not above the one before */
     RUSHGIRDLE_FULL = 10,      /* a 257th name */
-    RUSHGIRDLE_MALFORMED = 11  /* not a frame of the kind that was asked for */
+    RUSHGIRDLE_MALFORMED = 11, /* not a frame of the kind that was asked for */
+    RUSHGIRDLE_CONTROL = 12    /* the name or query holds a control character other than 0: a byte from 1 to 31, or 127 */
 };
 
 /* The measures. */
@@ -72,7 +73,7 @@ enum rushgirdle_measure {
 /* ---- the index */
 
 typedef struct {
-    uint8_t number;  /* 0, or in this order for the first bad line 11, 1, 2, 3, 9, 10, then for the whole 8 */
+    uint8_t number;  /* 0, or in this order for the first bad line 11, 1, 2, 3, 12, 9, 10, then for the whole 8 */
     uint32_t line;   /* the bad line, counted from 1; 0 after 0 and after 8 */
 } rushgirdle_build_answer;
 
@@ -97,9 +98,9 @@ rushgirdle_list_answer rushgirdle_list(
     uint32_t size, uint64_t feature);
 
 typedef struct {
-    uint8_t number;    /* 0, or the first that holds of 1, 2, 3, 4, 5, 6, 7, 8 */
+    uint8_t number;    /* 0, or the first that holds of 1, 2, 3, 12, 4, 5, 6, 7, 8 */
     uint32_t rows;     /* how many rows were written; 0 where refused */
-    uint32_t touches;  /* the touches made: all after 0 and 8, the allowance after 7, 0 after 1 to 6 */
+    uint32_t touches;  /* the touches made: all after 0 and 8, the allowance after 7, 0 after any other */
     uint16_t p;        /* the threshold p/q in lowest terms; 0/0 where refused */
     uint16_t q;
 } rushgirdle_search_answer;

@@ -90,7 +90,7 @@ static void register_of(int equal)
     for (unsigned i = 0; i < RUSHGIRDLE_MOST_NAMES; i++) {
         lines_length += (size_t)sprintf(lines + lines_length, "4E%04X%02X", i, NAME);
         for (unsigned k = 0; k < NAME; k++) {
-            unsigned byte = equal ? 'A' : k % 2 == 0 ? 1 + i % 16 + 16 * (k / 2 % 8) : 1 + i / 16 + 16 * (k / 16);
+            unsigned byte = equal ? 'A' : k % 2 == 0 ? 128 + i % 16 + 16 * (k / 2 % 8) : 128 + i / 16 + 16 * (k / 16);
             if (i == 0)
                 query[k] = (uint8_t)byte;
             lines_length += (size_t)sprintf(lines + lines_length, "%02X", byte);

@@ -1,4 +1,4 @@
-/* Every function of include/rushgirdle.h, at the edges: each number from 0 to 11, every field, every lent element before, in and after what is
+/* Every function of include/rushgirdle.h, at the edges: each number from 0 to 12, every field, every lent element before, in and after what is
  * written, and NULL with length 0; then once more with every slice just before memory that cannot be touched. What is expected was worked out by
  * hand from docs/RULE.md. Prints what fails, and at the end 'N passed, M failed'. */
 #define _DEFAULT_SOURCE
@@ -69,6 +69,13 @@ static const uint32_t two_words[23] = {
     3, 1090519041, 4, 2,
     1, 2, 1, 2, 1, 2};
 
+/* the index of LA, a tab and NE under 5, as it was built when control characters were let in: it stays good, and is searched */
+static const uint32_t tabbed[39] = {
+    1, 7, 7, 5 * 256 + 7,
+    7, 19457, 0, 1, 7, 4997377, 1, 1, 7, 156124417, 2, 1, 7, 1091128833, 3, 1, 7, 1157627905, 4, 1, 7, 1279330561, 5, 1, 7, 1313144833, 6, 1,
+    5, 5, 5, 5, 5, 5, 5,
+};
+
 static void test_build(void)
 {
     rushgirdle_build_answer b = build(two_lines, 25);
@@ -110,6 +117,9 @@ static void test_build(void)
     EXPECT(b.number == 1 && b.line == 1);
     b = build("4E00010100\n", 30);
     EXPECT(b.number == 3 && b.line == 1);
+    b = build("4E00010141\n4E00010109\n", 30);
+    EXPECT(b.number == 12 && b.line == 2);
+    EXPECT(all_words(words, 0, 30, BLANK));
     b = build("4E00010141\n4E00020141\n4E00020141\n", 30);
     EXPECT(b.number == 9 && b.line == 3);
     EXPECT(all_words(words, 0, 30, BLANK));
@@ -145,7 +155,7 @@ static void test_build(void)
     for (unsigned i = 0; i < 256; i++) {
         at += sprintf(most + at, "4E%04X40", i);
         for (unsigned k = 0; k < 64; k++)
-            at += sprintf(most + at, "%02X", k % 2 == 0 ? 1 + i % 16 + 16 * (k / 2 % 8) : 1 + i / 16 + 16 * (k / 16));
+            at += sprintf(most + at, "%02X", k % 2 == 0 ? 128 + i % 16 + 16 * (k / 2 % 8) : 128 + i / 16 + 16 * (k / 16));
         at += sprintf(most + at, "\n");
     }
     b = rushgirdle_build((const uint8_t *)most, (size_t)at, words, RUSHGIRDLE_MOST_WORDS);
@@ -174,6 +184,7 @@ static void test_good(void)
         w[i]--;
     }
     EXPECT(memcmp(w, two_words, sizeof two_words) == 0 && w[23] == KEPT && w[24] == KEPT);
+    EXPECT(rushgirdle_good(tabbed, 39) == true);
 }
 
 static void test_list(void)
@@ -267,6 +278,18 @@ static void test_search(void)
     fill_words(sizes, 8);
     a = rushgirdle_search((const uint8_t *)"A\0B", 3, 0, 0, 0, 0, lane, INDEX, ids, 8, shared, 8, sizes, 8);
     EXPECT(refused(a, 3, 0));
+    /* a tab, the delete code and the last control character; a 0 byte comes before them, and what is beside them passes */
+    EXPECT(refused(search("A\tB", 0, 0, 0, 0, 8, 8, 8), RUSHGIRDLE_CONTROL, 0));
+    EXPECT(refused(search("A\x7f", 1, 8, 13, 15, 8, 8, 8), 12, 0));
+    EXPECT(refused(search("\x1f", 1, 8, 13, 15, 8, 8, 8), 12, 0));
+    fill_words(ids, 8);
+    fill_words(shared, 8);
+    fill_words(sizes, 8);
+    EXPECT(refused(rushgirdle_search((const uint8_t *)"\t\0", 2, 1, 8, 13, 15, lane, INDEX, ids, 8, shared, 8, sizes, 8), 3, 0));
+    EXPECT(refused(search(" ~\x80\xff", 0, 0, 0, 0, 8, 8, 8), 4, 0));
+    /* a name with a tab that is in the index shares 4 features with LANE: 1 signature posting and 3 tests */
+    a = rushgirdle_search((const uint8_t *)"LANE", 4, 1, 8, 13, 4, tabbed, 39, ids, 8, shared, 8, sizes, 8);
+    EXPECT(a.number == 0 && a.rows == 1 && a.touches == 4 && ids[0] == 5 && shared[0] == 4 && sizes[0] == 7);
     EXPECT(refused(search("LANE", 0, 0, 0, 15, 8, 8, 8), 4, 0));
     EXPECT(refused(search("LANE", 5, 8, 13, 15, 8, 8, 8), 4, 0));
     EXPECT(refused(search("LANE", 255, 8, 13, 15, 8, 8, 8), 4, 0));
@@ -342,6 +365,7 @@ static void test_rows(void)
     EXPECT(rows_refused(search_rows("AAAAAAAAAAAAAAAAAAAAAAAAAAAAAAAAAAAAAAAAAAAAAAAAAAAAAAAAAAAAAAAAA", 0, 0, 0, 0, 8), 2, 0));
     fill_rows();
     EXPECT(rows_refused(rushgirdle_search_rows((const uint8_t *)"A\0B", 3, 0, 0, 0, 0, lane, INDEX, rows, 8), 3, 0));
+    EXPECT(rows_refused(search_rows("A\tB", 0, 0, 0, 0, 8), 12, 0));
     EXPECT(rows_refused(search_rows("LANE", 0, 0, 0, 15, 8), 4, 0));
     EXPECT(rows_refused(search_rows("LANE", 5, 8, 13, 15, 8), 4, 0));
     EXPECT(rows_refused(search_rows("LANE", 1, 0, 13, 15, 8), 5, 0));

@@ -33,7 +33,7 @@ def lengths(names):
 LANES = [(10, b"LANE"), (11, b"LANES"), (12, b"PLANE")]
 
 # a slice of 0 to 3 words, one word short, exact, and longer
-for names in [[], LANES, [(0, b"A")], [(65535, b"A" * 64)], [(5, b"AAA"), (6, b"AAAA")], [(5, b"A"), (9, b"A")], [(1, bytes(range(1, 65))), (2, bytes(range(192, 256)))]]:
+for names in [[], LANES, [(0, b"A")], [(65535, b"A" * 64)], [(5, b"AAA"), (6, b"AAAA")], [(5, b"A"), (9, b"A")], [(1, bytes(range(32, 96))), (2, bytes(range(192, 256)))]]:
     register, words = lengths(names)
     for length in sorted({0, 1, 2, 3, words - 1, words, words + 1, words + 5}):
         case(length, register)
@@ -47,13 +47,13 @@ bad = [
 for at in [0, 2, 4]:
     for text in bad:  # 11
         case(170, b"".join(good[:at]) + text.encode() + b"".join(good[at + 1 :]))
-    for name in [b"", b"A" * 65, b"A" * 255, b"A\0", b"\0" * 64]:  # 1, 2, 2, 3, 3
+    for name in [b"", b"A" * 65, b"A" * 255, b"A\0", b"\0" * 64, b"A\t", b"\x7f" * 64, b"\x1f\0", b" ~\x80"]:  # 1, 2, 2, 3, 3, 12, 12, 3, good
         case(170, b"".join(good[:at]) + line(100 + 10 * at, name) + b"".join(good[at + 1 :]))
     for id in [0, 100 + 10 * (at - 1) - 1, 100 + 10 * (at - 1), 100 + 10 * (at - 1) + 1]:  # 9 up to the id before, and good from there on
         case(170, b"".join(good[:at]) + line(id, b"NAME") + b"".join(good[at + 1 :]))
 
 # two faults in one line: the order of judging
-for name, id in [(b"", 0), (b"A" * 65, 0), (b"\0", 0), (b"\0" * 65, 0), (b"\0" * 65, 200)]:  # 1, 2, 3, 2, 2
+for name, id in [(b"", 0), (b"A" * 65, 0), (b"\0", 0), (b"\0" * 65, 0), (b"\0" * 65, 200), (b"\t", 0), (b"\t" * 65, 0)]:  # 1, 2, 3, 2, 2, 12, 2
     case(60, good[0] + line(id, name))
 case(60, good[0] + line(0, b"J"))  # 9
 case(60, good[0] + line(0, b"J").replace(b"4A", b"4a"))  # 11
@@ -77,7 +77,7 @@ for count in [255, 256, 257, 258]:
     for length in [words - 1, words, words + 2] if count < 257 else [20]:
         case(length, register)
 many = b"".join(line(id, b"A") for id in range(256))
-for text in [b"\n", line(300, b""), line(300, b"A" * 65), line(300, b"\0"), line(255, b"A"), line(256, b"A")]:  # 11, 1, 2, 3, 9, 10
+for text in [b"\n", line(300, b""), line(300, b"A" * 65), line(300, b"\0"), line(300, b"\t"), line(255, b"A"), line(256, b"A")]:  # 11, 1, 2, 3, 12, 9, 10
     case(20, many + text)
 
 # the most postings: 256 names of 64 bytes

@@ -26,7 +26,7 @@ pub fn lines(bytes: &[u8]) -> Vec<&[u8]> {
     bytes.split_inclusive(|byte| *byte == b'\n').collect()
 }
 
-/// The name of one register line after the names before it, judged 11, 1, 2, 3, 9, 10.
+/// The name of one register line after the names before it, judged 11, 1, 2, 3, 12, 9, 10.
 pub fn register_line(line: &[u8], before: &[Registered]) -> Result<Registered, Refusal> {
     let mut buffer = [0; FRAME_NAME];
     let frame = read_name(line, &mut buffer);

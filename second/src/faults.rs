@@ -1,7 +1,7 @@
 //! Lookups that are wrong on purpose, one fault each, to see that a comparison catches them. Nothing else uses this.
 
 use crate::build::{build, lines, register_line, register_names, words_of, Built, Registered};
-use crate::features::features;
+use crate::features::{control, features, judge};
 use crate::frames::read_name;
 use crate::index::Index;
 use crate::limits::{BLANK, FRAME_NAME, INPUT, LEAST_SIZE, MOST_SIZE, NAMES};
@@ -17,7 +17,7 @@ pub type Lookup = fn(&[u8]) -> Vec<u8>;
 pub type Fault = (&'static str, Lookup);
 
 /// Every fault.
-pub const FAULTS: [Fault; 41] = [
+pub const FAULTS: [Fault; 49] = [
     // Lists that are short, long or out of order.
     ("list_always_empty", |input| searching(input, |words, query, rows| kept(words, query, rows, |_, _, _| false))),
     ("refused_always", |input| searching(input, |_, query, _| Answer::refused(Refusal::Allowance, query.allowance))),
@@ -46,6 +46,17 @@ pub const FAULTS: [Fault; 41] = [
     ("257th_judged_before_order", |input| building(input, |register, words| built_by(register, words, one_too_many))),
     ("257th_judged_before_frame", |input| {
         building(input, |register, words| built_by(register, words, one_line_too_many))
+    }),
+    // Control characters.
+    ("delete_code_passes", |input| lookup(&rewritten(input, b"7F", b"7E"))),
+    ("byte_31_passes", |input| lookup(&rewritten(input, b"1F", b"20"))),
+    ("byte_32_refused", |input| searching(input, |words, query, rows| refusing(words, query, rows, 32))),
+    ("byte_126_refused", |input| searching(input, |words, query, rows| refusing(words, query, rows, 126))),
+    ("byte_128_refused", |input| searching(input, |words, query, rows| refusing(words, query, rows, 128))),
+    ("control_judged_before_0", |input| searching(input, control_judged_before_0)),
+    ("measure_judged_before_control", |input| searching(input, measure_judged_before_control)),
+    ("register_takes_tabs", |input| {
+        building(input, |register, words| build(&rewritten(register, b"09", b"20"), words))
     }),
     // Touches by another method.
     ("ties_by_falling_feature", |input| searching(input, |w, q, r| turned(w, q, r, Turn { ties: true, ..STRAIGHT }))),
@@ -191,6 +202,51 @@ fn threshold_judged_before_measure(words: &[u32], query: &Query, rows: &mut [Ans
     let answer = search(words, query, rows);
     match Threshold::of(query.p, query.q) {
         Err(refusal) if answer.number == Refusal::Measure.number() => Answer::refused(refusal, 0),
+        _ => answer,
+    }
+}
+
+/// The lines with one byte of their names put in another's place.
+fn rewritten(input: &[u8], from: &[u8; 2], to: &[u8; 2]) -> Vec<u8> {
+    let mut output = Vec::new();
+    for line in lines(input) {
+        // The digits before the name: kind, fields and length.
+        let fields = match line {
+            [b'4', b'E', ..] => 8,
+            [b'5', b'1', ..] => 22,
+            _ => line.len(),
+        };
+        let (head, name) = line.split_at(fields.min(line.len()));
+        output.extend(head);
+        for pair in name.chunks(2) {
+            output.extend(if pair == from { to } else { pair });
+        }
+    }
+    output
+}
+
+/// The true answer, but for a query with this byte, which is taken for a control character.
+fn refusing(words: &[u32], query: &Query, rows: &mut [AnswerRow], byte: u8) -> Answer {
+    if judge(&query.name).is_ok() && query.name.contains(&byte) {
+        Answer::refused(Refusal::Control, 0)
+    } else {
+        search(words, query, rows)
+    }
+}
+
+fn control_judged_before_0(words: &[u32], query: &Query, rows: &mut [AnswerRow]) -> Answer {
+    let answer = search(words, query, rows);
+    if answer.number == Refusal::Zero.number() && query.name.iter().any(|byte| *byte != 0 && control(*byte)) {
+        Answer::refused(Refusal::Control, 0)
+    } else {
+        answer
+    }
+}
+
+fn measure_judged_before_control(words: &[u32], query: &Query, rows: &mut [AnswerRow]) -> Answer {
+    let answer = search(words, query, rows);
+    match Measure::of(query.measure) {
+        Err(refusal) if answer.number == Refusal::Control.number() => Answer::refused(refusal, 0),
         _ => answer,
     }
 }

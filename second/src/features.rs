@@ -6,7 +6,12 @@ use crate::refusal::Refusal;
 /// Three bytes that stand side by side in a padded name.
 pub type Gram = [u8; 3];
 
-/// Refuses what is no name: empty, then longer than 64 bytes, then holding a 0 byte.
+/// Whether a byte is a control character.
+pub fn control(byte: u8) -> bool {
+    byte < 32 || byte == 127
+}
+
+/// Refuses what is no name: empty, then longer than 64 bytes, then holding a 0 byte, then holding another control character.
 pub fn judge(name: &[u8]) -> Result<(), Refusal> {
     if name.is_empty() {
         return Err(Refusal::Empty);
@@ -16,6 +21,9 @@ pub fn judge(name: &[u8]) -> Result<(), Refusal> {
     }
     if name.contains(&0) {
         return Err(Refusal::Zero);
+    }
+    if name.iter().any(|byte| control(*byte)) {
+        return Err(Refusal::Control);
     }
     Ok(())
 }
@@ -41,6 +49,11 @@ pub fn features(name: &[u8]) -> Vec<u32> {
     if judge(name).is_err() {
         return Vec::new();
     }
+    numbered(name)
+}
+
+/// The features of bytes that are not judged.
+pub fn numbered(name: &[u8]) -> Vec<u32> {
     let grams = grams(name);
     (0..grams.len()).map(|at| feature(grams[at], number_at(&grams, at))).collect()
 }

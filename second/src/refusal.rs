@@ -25,6 +25,8 @@ pub enum Refusal {
     Crowd = 10,
     /// A malformed frame.
     Malformed = 11,
+    /// The name or query holds a control character other than 0.
+    Control = 12,
 }
 
 impl Refusal {

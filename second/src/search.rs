@@ -145,7 +145,7 @@ pub fn search(words: &[u32], query: &Query, rows: &mut [AnswerRow]) -> Answer {
     }
 }
 
-/// What is judged before the search itself: 1, 2, 3, 4, 5, 6 in that order.
+/// What is judged before the search itself: 1, 2, 3, 12, 4, 5, 6 in that order.
 pub fn judged<'a>(words: &'a [u32], query: &Query) -> Result<(Index<'a>, Measure, Threshold), Refusal> {
     judge(&query.name)?;
     let measure = Measure::of(query.measure)?;

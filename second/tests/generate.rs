@@ -4,7 +4,7 @@ use std::collections::{BTreeMap, BTreeSet};
 
 use second::build::{build, lines, register_names};
 use second::faults::FAULTS;
-use second::features::features;
+use second::features::{control, features};
 use second::frames::{read_end, read_name, read_query, read_refused, read_row};
 use second::generate::lines::DAMAGES;
 use second::generate::{input, words};
@@ -62,11 +62,11 @@ fn numbers(kind: Kind, count: u64) -> BTreeSet<String> {
 #[test]
 fn every_number_comes_up() {
     let set = |numbers: &[u8]| numbers.iter().map(u8::to_string).collect::<BTreeSet<String>>();
-    assert_eq!(numbers(Kind::Features, 500), set(&[0, 1, 2, 3]));
+    assert_eq!(numbers(Kind::Features, 500), set(&[0, 1, 2, 3, 12]));
     assert_eq!(numbers(Kind::Likeness, 500), set(&[0, 4, 5]));
     assert_eq!(numbers(Kind::Good, 500), set(&[0, 1]));
-    assert_eq!(numbers(Kind::Build, 3000), set(&[0, 1, 2, 3, 8, 9, 10, 11]));
-    assert_eq!(numbers(Kind::Search, 1500), set(&[0, 1, 2, 3, 4, 5, 6, 7, 8]));
+    assert_eq!(numbers(Kind::Build, 3000), set(&[0, 1, 2, 3, 8, 9, 10, 11, 12]));
+    assert_eq!(numbers(Kind::Search, 1500), set(&[0, 1, 2, 3, 4, 5, 6, 7, 8, 12]));
     assert_eq!(numbers(Kind::Frames, 1500), set(&[0, 2, 8, 11]));
     assert_eq!(numbers(Kind::Sweep, 1500), set(&[0, 1]));
 }
@@ -255,6 +255,9 @@ fn tally_query(tally: &mut Tally, line: &[u8], names: &[second::build::Registere
         0 | 1 | 63..=66 | 255 => tally.count(format!("a query of {}", query.name.len())),
         _ => (),
     }
+    if query.name.contains(&0) && query.name.iter().any(|byte| *byte != 0 && control(*byte)) {
+        tally.count("a query with a 0 byte and another control character");
+    }
     let empty = second::search::AnswerRow { id: 0, shared: 0, size: 0 };
     let mut rows = [empty; 256];
     let answer = second::search::search(words, &query, &mut rows);
@@ -302,7 +305,7 @@ fn tally_query(tally: &mut Tally, line: &[u8], names: &[second::build::Registere
     }
 }
 
-const NEEDED: [&str; 45] = [
+const NEEDED: [&str; 48] = [
     "65535 bytes",
     "65536 bytes",
     "65537 bytes",
@@ -314,6 +317,7 @@ const NEEDED: [&str; 45] = [
     "register 9",
     "register 10",
     "register 11",
+    "register 12",
     "no names",
     "255 names",
     "256 names",
@@ -330,6 +334,8 @@ const NEEDED: [&str; 45] = [
     "query 5",
     "query 7",
     "query 11",
+    "query 12",
+    "a query with a 0 byte and another control character",
     "a query of 0",
     "a query of 1",
     "a query of 63",

@@ -18,7 +18,7 @@ const A: &str = "52000A0606\n4500010000000600010001\n";
 const B: &str = "580B00000000\n";
 
 /// What is shown, the input in pieces, the output in pieces.
-const WHOLE: [(&str, &[&str], &[&str]); 31] = [
+const WHOLE: [(&str, &[&str], &[&str]); 32] = [
     // Where the register ends and the queries begin.
     ("nothing", &[], &[]),
     ("a register alone", &[R], &[]),
@@ -48,6 +48,7 @@ const WHOLE: [(&str, &[&str], &[&str]); 31] = [
     // Refused queries: one line each, and reading goes on.
     ("an empty query", &[R, "510100010001000000FF00\n", Q], &["580100000000\n", A]),
     ("a 0 byte in a query", &[R, "510100010001000000FF024100\n", Q], &["580300000000\n", A]),
+    ("a tab in a query", &[R, "510100010001000000FF024109\n", Q], &["580C00000000\n", A]),
     ("measure 0", &[R, "510000010001000000FF0141\n", Q], &["580400000000\n", A]),
     ("threshold 0/1", &[R, "510100000001000000FF0141\n", Q], &["580500000000\n", A]),
     ("threshold 1/1001", &[R, "5101000103E9000000FF0141\n", Q], &["580500000000\n", A]),
@@ -84,6 +85,7 @@ fn refused_registers() {
         ("a name of 65 bytes", name_line(1, &[b'A'; 65]), "580200000000\n".to_string()),
         ("a name of 255 bytes", name_line(1, &[b'A'; 255]), "580200000000\n".to_string()),
         ("a 0 byte", name_line(1, &[0]), "580300000000\n".to_string()),
+        ("a tab", name_line(1, b"A\t"), "580C00000000\n".to_string()),
         ("an id again", [name_line(1, b"A"), name_line(1, b"B")].concat(), "580900000000\n".to_string()),
         ("256 names", names(256), all),
         ("257 names", names(257), "580A00000000\n".to_string()),

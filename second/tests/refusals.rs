@@ -25,7 +25,15 @@ fn names() -> Vec<(&'static str, Vec<u8>, u8)> {
         ("64 bytes, one of them 0", [&[b'A'; 63][..], &[0]].concat(), 3),
         ("nothing", b"LANE".to_vec(), 0),
         ("nothing, 64 bytes", vec![b'A'; 64], 0),
-        ("nothing, bytes 1 and 255", vec![1, 255], 0),
+        ("a tab", b"LA\tNE".to_vec(), 12),
+        ("a delete code", b"LANE\x7f".to_vec(), 12),
+        ("nothing but byte 1", vec![1], 12),
+        ("byte 31 first", b"\x1fLANE".to_vec(), 12),
+        ("64 bytes, one of them a line feed", [&[b'A'; 63][..], b"\n"].concat(), 12),
+        ("a tab before a 0 byte", b"LA\tNE\0".to_vec(), 3),
+        ("65 bytes and a tab", [&[b'A'; 64][..], b"\t"].concat(), 2),
+        ("nothing, bytes 32 and 126", b" ~".to_vec(), 0),
+        ("nothing, bytes 128 and 255", vec![128, 255], 0),
     ]
 }
 
@@ -70,9 +78,9 @@ fn searches_one_by_one() {
     }
 }
 
-/// Every set of faults at once: the lowest number is given, with the touches that go with it.
+/// Every set of faults at once: the name's number is given, and otherwise the lowest, with the touches that go with it.
 #[test]
-fn a_search_judges_in_the_order_of_the_numbers() {
+fn a_search_judges_in_its_order() {
     let words = index(&LISTING);
     let mut spoilt = words.clone();
     spoilt[0] += 1;
@@ -116,6 +124,7 @@ fn registers() -> Vec<(&'static str, Vec<u8>, u8, usize)> {
         ("a name of 65 bytes", after(&name_line(12, &[b'A'; 65])), 2, 3),
         ("a name of 255 bytes", after(&name_line(12, &[b'A'; 255])), 2, 3),
         ("a 0 byte", after(&name_line(12, b"A\0")), 3, 3),
+        ("a tab in a name", after(&name_line(12, b"A\t")), 12, 3),
         ("an id equal to the one before", after(&name_line(11, b"A")), 9, 3),
         ("an id below the one before", after(&name_line(9, b"A")), 9, 3),
         ("an id that stood earlier", after(&name_line(10, b"A")), 9, 3),
@@ -139,7 +148,7 @@ fn registers_one_by_one() {
     }
 }
 
-/// The faults of one line, all together with others: 11, 1, 2, 3, 9, 10 in that order.
+/// The faults of one line, all together with others: 11, 1, 2, 3, 12, 9, 10 in that order.
 #[test]
 fn a_line_is_judged_in_its_order() {
     let full: Vec<u8> = (0..256).flat_map(|id| name_line(2 * id, b"A")).collect();
@@ -155,7 +164,7 @@ fn a_line_is_judged_in_its_order() {
                     }
                     let expected = match (broken, number, behind, lines) {
                         (true, ..) => 11,
-                        (_, 1..=3, ..) => number,
+                        (_, 1..=3 | 12, ..) => number,
                         (_, _, true, _) => 9,
                         (_, _, _, 256) => 10,
                         _ => 0,

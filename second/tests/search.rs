@@ -3,7 +3,7 @@
 use std::collections::BTreeSet;
 
 use second::build::{build, register_names, Registered};
-use second::features::features;
+use second::features::{features, numbered};
 use second::generate::{queries, registers, words};
 use second::index::{cut, good_index, Index};
 use second::listed::{features_of_index, features_of_names, listed};
@@ -73,7 +73,7 @@ fn held_to_the_definition(index: &Index<'_>, wanted: &[u32], measure: Measure, t
 #[test]
 fn the_counted_search_lists_what_the_definition_lists() {
     let (mut searches, mut rows) = (0, 0);
-    for at in 0..500 {
+    for at in 0..600 {
         let mut random = Random::of(5, 1, at);
         let register = registers::small(&mut random);
         let known = register.first().map_or(b"LANE".to_vec(), |name| name.name.clone());
@@ -115,7 +115,7 @@ fn held_to_the_register(words: &[u32], register: &[Registered], query: &Query) {
     let mut rows = vec![LENT; 256];
     let answer = search(words, query, &mut rows);
     let Ok((_, measure, threshold)) = judged(words, query) else {
-        assert!((1..=5).contains(&answer.number));
+        assert!((1..=5).contains(&answer.number) || answer.number == 12);
         return;
     };
     let wanted = features(&query.name).into_iter().collect();
@@ -151,6 +151,19 @@ fn a_larger_allowance_alters_nothing() {
             assert!(kept.iter().all(|row| *row == LENT));
         }
     }
+}
+
+/// A name with a tab stays in an index that was built before, and is found by its features.
+#[test]
+fn a_name_with_a_control_character_is_searched() {
+    let names = [(5, numbered(b"LA\tNE")), (6, numbered(b"LANE"))];
+    let words = second::build::words_of(&names);
+    assert!(good_index(&words).is_some());
+    let query = Query { measure: 1, p: 8, q: 13, allowance: 10, name: b"LANE".to_vec() };
+    let mut rows = vec![LENT; 2];
+    let answer = search(&words, &query, &mut rows);
+    assert_eq!((answer.number, answer.rows, answer.touches), (0, 2, 10));
+    assert_eq!(rows, [AnswerRow { id: 5, shared: 4, size: 7 }, AnswerRow { id: 6, shared: 6, size: 6 }]);
 }
 
 /// Features of an index need not come from any name: the search asks for a query's own features alone.

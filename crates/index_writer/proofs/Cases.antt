@@ -8,7 +8,7 @@ use Rattle.laws.specs.Lists.{member, countOf, tabulate}
 use Rattle.laws.specs.Below.{allBelow, anyBelow, sumBelow}
 use Rattle.laws.specs.First.{firstFrom}
 use Rattle.laws.specs.Sort.{insert, sortOf}
-use Rattle.names.specs.Names.{judgeOf}
+use Rattle.names.specs.Names.{hasControl, judgeOf}
 use Rattle.names.specs.Features.{padded, packed, gramAt, timesIn, numberAt, numbered, featuresBy, featuresOf}
 use Rattle.words.specs.Words.{nameWord, nameId, nameSize, rowSize, rowFeature, rowPlace, rowLength, posting, listAt}
 use Rattle.index.specs.Good.{headGood, nameGood, namesGood, rowBefore, placeDue, rowGood, rowsGood, isName, listGood, listsWith, listsGood, goodOf}
@@ -23,10 +23,10 @@ three =
     ∷ []
 
 three-good : goodOf (wordsOf three) ≡ true
-unfolding goodOf headGood nameGood namesGood rowBefore placeDue rowGood rowsGood isName listGood listsWith listsGood nameWord nameId nameSize rowSize rowFeature rowPlace rowLength posting listAt triplesOf allTriples joinRow runsOf listsOf rowWords wordsFrom rowsOf wordsOf insert sortOf member countOf tabulate allBelow anyBelow sumBelow firstCase judgeOf padded packed gramAt timesIn numberAt numbered featuresBy featuresOf
+unfolding goodOf headGood nameGood namesGood rowBefore placeDue rowGood rowsGood isName listGood listsWith listsGood nameWord nameId nameSize rowSize rowFeature rowPlace rowLength posting listAt triplesOf allTriples joinRow runsOf listsOf rowWords wordsFrom rowsOf wordsOf insert sortOf member countOf tabulate allBelow anyBelow sumBelow firstCase judgeOf hasControl padded packed gramAt timesIn numberAt numbered featuresBy featuresOf
 three-good = refl
 
 -- ANE stands in LANES and PLANE, both of size 7
 ane-list : listIn (wordsOf three) 7 1095648513 ≡ 11 ∷ 12 ∷ []
-unfolding firstFrom rowIs rowFor listIn nameWord nameId nameSize rowSize rowFeature rowPlace rowLength posting listAt triplesOf allTriples joinRow runsOf listsOf rowWords wordsFrom rowsOf wordsOf insert sortOf member countOf tabulate allBelow anyBelow sumBelow firstCase judgeOf padded packed gramAt timesIn numberAt numbered featuresBy featuresOf
+unfolding firstFrom rowIs rowFor listIn nameWord nameId nameSize rowSize rowFeature rowPlace rowLength posting listAt triplesOf allTriples joinRow runsOf listsOf rowWords wordsFrom rowsOf wordsOf insert sortOf member countOf tabulate allBelow anyBelow sumBelow firstCase judgeOf hasControl padded packed gramAt timesIn numberAt numbered featuresBy featuresOf
 ane-list = refl

@@ -14,13 +14,25 @@ use borrow.Author.Tests.{eq-eqb, ne-eqb, eqb-false, lt-ltb, le-ltb, ltb-false}
 use Rattle.laws.specs.Lists.{member, Distinct}
 use Rattle.laws.specs.Cases.{firstCase, allNumbers, allNumbered}
 use Rattle.laws.proofs.Lists.{distinct-nil, length-tabulate, getD-tabulate, distinct-tabulate}
+use Rattle.laws.proofs.Members.{member-place}
+use Rattle.laws.proofs.Below.{any-of}
+use Rattle.laws.proofs.Tests.{test-fails, test-failed}
 use Rattle.laws.proofs.Cases.{first-passed}
 use Rattle.laws.proofs.Order.{le-or-lt, eq-or-ne}
-use Rattle.names.specs.Names.{longest, nameCases, judgeOf}
+use Rattle.names.specs.Names.{longest, isControl, hasControl, nameCases, judgeOf}
 use Rattle.names.specs.Features.{padded, packed, gramAt, sizeOf, timesIn, numberAt, numbers, numbered, featuresBy, gramLength, characters, mostFeatures, featuresOf}
 use Rattle.names.proofs.Lemmas.{times-met, times-passed, number-within, gram-of, pad-low, pad-at}
 
 -- ---- the judgement of a name, case by case
+
+-- a name without a control character has no 0 byte
+no-zero : (s : List ℕ) → hasControl s ≡ false → member 0 s ≡ false
+unfolding hasControl
+no-zero s k =
+    test-fails (member 0 s)
+    (λ m.
+    let p = member-place 0 s m in
+    test-failed (hasControl s) k (any-of (length s) (λ (i : ℕ). isControl (getD s i 0)) (p .0) (p .1) (ap isControl (p .2))))
 
 pub judge-empty : (s : List ℕ) → length s ≡ 0 → judgeOf s ≡ 1
 unfolding judgeOf firstCase
@@ -35,19 +47,24 @@ module _ (s : List ℕ) (some : length s ≡ 0 → ⊥) (short : length s ≤ lo
   unfolding judgeOf firstCase
   judge-zero z = rw (ne-eqb (length s) 0 some, le-ltb longest (length s) short, z)
 
-  pub judge-good : member 0 s ≡ false → judgeOf s ≡ 0
+  pub judge-control : member 0 s ≡ false → hasControl s ≡ true → judgeOf s ≡ 12
   unfolding judgeOf firstCase
-  judge-good z = rw (ne-eqb (length s) 0 some, le-ltb longest (length s) short, z)
+  judge-control z k = rw (ne-eqb (length s) 0 some, le-ltb longest (length s) short, z, k)
+
+  pub judge-good : hasControl s ≡ false → judgeOf s ≡ 0
+  unfolding judgeOf firstCase
+  judge-good k = rw (ne-eqb (length s) 0 some, le-ltb longest (length s) short, no-zero s k, k)
 
 -- what a name that is judged 0 is: no case applies
-pub good-name : (s : List ℕ) → judgeOf s ≡ 0 → (1 ≤ length s) × (length s ≤ longest) × (member 0 s ≡ false)
+pub good-name : (s : List ℕ) → judgeOf s ≡ 0 → (1 ≤ length s) × (length s ≤ longest) × (member 0 s ≡ false) × (hasControl s ≡ false)
 unfolding judgeOf
 good-name s g =
     let empty = first-passed 1 (eqb (length s) 0) _ (λ e. omega arith) g in
     let long = first-passed 2 (ltb longest (length s)) _ (λ e. omega arith) (empty .1) in
     let zeros = first-passed 3 (member 0 s) _ (λ e. omega arith) (long .1) in
+    let controls = first-passed 12 (hasControl s) _ (λ e. omega arith) (zeros .1) in
     let some = eqb-false (length s) 0 (empty .0) in
-    (omega arith, ltb-false longest (length s) (long .0), zeros .0)
+    (omega arith, ltb-false longest (length s) (long .0), zeros .0, controls .0)
 
 -- no refusal of a name has the number 0: a list of cases may put its own after them
 pub names-numbered : (s : List ℕ) → allNumbered (nameCases s) ≡ true
@@ -191,26 +208,27 @@ pub gram-below : (g w : ℕ) (s : List ℕ) → ((j : ℕ) → getD s j 0 < w) �
 unfolding gramAt
 gram-below g w s b i = packed-below w (padded g s) (padded-below g w s b) i g
 
--- each feature of a name of bytes fits 32 bits
-pub feature-fits : (s : List ℕ) → ((j : ℕ) → getD s j 0 < characters) → (i : ℕ) → getD (featuresOf s) i 0 < 2 ^ 32
+-- each feature of bytes fits 32 bits, as long as they are no more than a name has
+pub feature-fits-by : (s : List ℕ) → ((j : ℕ) → getD s j 0 < characters) → length s ≤ longest → (i : ℕ)
+    → getD (featuresBy gramLength characters s) i 0 < 2 ^ 32
 unfolding featuresBy numbered
+feature-fits-by s b short i =
+    ⊎-elim
+    (λ (h : sizeOf gramLength (length s) ≤ i).
+    rw (List·getD-eq-default (featuresBy gramLength characters s) 0 {n = i} (rw (length-features-by gramLength characters s) h)) (lit< tt))
+    (λ (h : i < sizeOf gramLength (length s)).
+    let n = number-within (gramAt gramLength characters s) i in
+    let m : gramAt gramLength characters s i < 16777216 = gram-below gramLength characters s b i in
+    rw (getD-tabulate (numbered (gramAt gramLength characters s)) (sizeOf gramLength (length s)) i 0 h) (omega arith))
+    (le-or-lt (sizeOf gramLength (length s)) i)
+
+-- so does each feature of a name
+pub feature-fits : (s : List ℕ) → ((j : ℕ) → getD s j 0 < characters) → (i : ℕ) → getD (featuresOf s) i 0 < 2 ^ 32
 feature-fits s b i =
     ⊎-elim
-    (λ (e : judgeOf s ≡ 0). rw (features-good s e) (within e))
+    (λ (e : judgeOf s ≡ 0). rw (features-good s e) (feature-fits-by s b (good-name s e .1) i))
     (λ (n : judgeOf s ≡ 0 → ⊥). rw (features-refused s n) (lit< tt))
     (eq-or-ne (judgeOf s) 0)
-  where
-    within : judgeOf s ≡ 0 → getD (featuresBy gramLength characters s) i 0 < 2 ^ 32
-    within e =
-        ⊎-elim
-        (λ (h : sizeOf gramLength (length s) ≤ i).
-        rw (List·getD-eq-default (featuresBy gramLength characters s) 0 {n = i} (rw (length-features-by gramLength characters s) h)) (lit< tt))
-        (λ (h : i < sizeOf gramLength (length s)).
-        let g = good-name s e in
-        let n = number-within (gramAt gramLength characters s) i in
-        let m : gramAt gramLength characters s i < 16777216 = gram-below gramLength characters s b i in
-        rw (getD-tabulate (numbered (gramAt gramLength characters s)) (sizeOf gramLength (length s)) i 0 h) (omega arith))
-        (le-or-lt (sizeOf gramLength (length s)) i)
 
 -- its number is at least 1 and at most mostFeatures
 pub number-most : (s : List ℕ) → judgeOf s ≡ 0 → (i : ℕ) → i < length (featuresOf s)

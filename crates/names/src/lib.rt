@@ -4,7 +4,7 @@ ghost use mathlib.Core.List.{[]};
 ghost use Prim.Native.Nat.{ℕ, _+_, _/_, _%_, _≤_, _<_};
 ghost use lib.ListN.{length, getD};
 ghost use Rattle.laws.specs.Lists.{member};
-ghost use Rattle.names.specs.Names.{judgeOf};
+ghost use Rattle.names.specs.Names.{isControl, hasControl, judgeOf};
 ghost use Rattle.names.specs.Features.{padded, gramAt, timesIn, featuresOf, gramLength, characters, mostFeatures};
 ghost use Rattle.names.specs.Set.{filled, marks, Ends};
 
@@ -46,7 +46,32 @@ fn has_zero(name: &[u8]) -> bool
     false
 }
 
-// 0 for a good name; 1 for an empty one, then 2 for one that is too long, then 3 for a 0 byte.
+// Whether a byte is a control character: below 32, or 127.
+fn is_control(byte: u8) -> bool
+    ensures { λ r. ⌜ r ≡ isControl byte ⌝ }
+{
+    if byte < 32 {
+        return true;
+    }
+    byte == 127
+}
+
+// Whether a byte of the name is a control character.
+fn has_control(name: &[u8]) -> bool
+    ensures { λ r. ⌜ r ≡ hasControl (now (name .entry)) ⌝ }
+{
+    let mut at = 0;
+    while at < name.len() {
+        if is_control(name[at]) {
+            return true;
+        }
+        at += 1;
+    }
+    false
+}
+
+// 0 for a good name; 1 for an empty one, then 2 for one that is too long, then 3 for a 0 byte, then 12 for another control character.
+// A 0 byte is a control character too, so a good name is read through once.
 pub fn judge(name: &[u8]) -> u8
     ensures { λ r. ⌜ r ≡ judgeOf (now (name .entry)) ⌝ }
 {
@@ -57,10 +82,13 @@ pub fn judge(name: &[u8]) -> u8
     if LONGEST < n {
         return 2;
     }
+    if !has_control(name) {
+        return 0;
+    }
     if has_zero(name) {
         return 3;
     }
-    0
+    12
 }
 
 fn wide(x: u8) -> u64

@@ -24,6 +24,15 @@ fn main() {
     // the most bytes, all 0, and one more: too long comes before the 0 byte
     show(&[0u8; names::LONGEST]);
     show(&[0u8; names::LONGEST + 1]);
-    // every other byte is a character like any: 1, 127, 255
-    show(&[1u8, 127, 255]);
+    // a control character: a tab in the middle, 1 alone, 31 first, 127 last, and with a 0 byte, which comes before it
+    show(&[65u8, 9, 66]);
+    show(&[1u8]);
+    show(&[31u8, 65]);
+    show(&[65u8, 127]);
+    show(&[9u8, 0]);
+    // the most bytes, all 1, and one more
+    show(&[1u8; names::LONGEST]);
+    show(&[1u8; names::LONGEST + 1]);
+    // every other byte is a character like any: 32, 126, 128, 255
+    show(&[32u8, 126, 128, 255]);
 }

@@ -6,9 +6,10 @@ use mathlib.Core.List.{List, [], _∷_, _++_, map}
 use Prim.Native.Nat.{ℕ, zero, suc, _+_, _/_, _%_}
 use lib.ListN.{replicate}
 use Rattle.laws.specs.Lists.{member, tabulate, sumOf}
+use Rattle.laws.specs.Below.{anyBelow}
 use Rattle.laws.specs.Sort.{insert, sortOf}
 use Rattle.laws.specs.Cases.{firstCase}
-use Rattle.names.specs.Names.{judgeOf}
+use Rattle.names.specs.Names.{hasControl, judgeOf}
 use Rattle.names.specs.Features.{padded, packed, gramAt, timesIn, numberAt, numbered, featuresBy, featuresOf}
 use Rattle.hex.specs.Lines.{digitOf, placeIn, valueOf, isDigit, hexOf, hexLine, wellFormed, bytesOf}
 use Rattle.hex.specs.Numbers.{numberOf}
@@ -67,6 +68,8 @@ examples =
     ∷ builds (line (0 ∷ 11 ∷ 65 ∷ replicate 65 65)) 99 2 1
     -- a 0 byte
     ∷ builds (line (0 ∷ 11 ∷ 1 ∷ 0 ∷ [])) 99 3 1
+    -- a tab
+    ∷ builds (line (0 ∷ 11 ∷ 1 ∷ 9 ∷ [])) 99 12 1
     -- the same id again
     ∷ builds (lane ++ lane) 99 9 2
     -- the first bad line decides
@@ -81,5 +84,5 @@ examples =
 
 -- every example is what it should be
 examples-right : map (λ (e : Example). e .is) examples ≡ map (λ (e : Example). e .should) examples
-unfolding examples joinLine linesOf nextFrom firstCase judgeLine takeLines takenOf builtOf wordsAfter triplesOf allTriples joinRow runsOf listsOf rowWords wordsFrom rowsOf wordsOf insert sortOf member tabulate sumOf judgeOf padded packed gramAt timesIn numberAt numbered featuresBy featuresOf digitOf placeIn valueOf isDigit hexOf hexLine wellFormed bytesOf numberOf headSize tailSize laidOut isFrame fieldsOf fieldsIn nameIn crowd
+unfolding examples joinLine linesOf nextFrom firstCase judgeLine takeLines takenOf builtOf wordsAfter triplesOf allTriples joinRow runsOf listsOf rowWords wordsFrom rowsOf wordsOf insert sortOf member tabulate sumOf judgeOf hasControl anyBelow padded packed gramAt timesIn numberAt numbered featuresBy featuresOf digitOf placeIn valueOf isDigit hexOf hexLine wellFormed bytesOf numberOf headSize tailSize laidOut isFrame fieldsOf fieldsIn nameIn crowd
 examples-right = refl

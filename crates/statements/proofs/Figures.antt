@@ -6,7 +6,7 @@ use Rattle.laws.specs.Lists.{member, countOf, tabulate, sumOf}
 use Rattle.laws.specs.Below.{allBelow, anyBelow, sumBelow, passingBelow}
 use Rattle.laws.specs.First.{firstFrom}
 use Rattle.laws.specs.Sort.{insert, sortOf}
-use Rattle.names.specs.Names.{judgeOf}
+use Rattle.names.specs.Names.{hasControl, judgeOf}
 use Rattle.names.specs.Features.{padded, packed, gramAt, timesIn, numberAt, numbered, featuresBy, featuresOf}
 use Rattle.names.specs.Shared.{sharedOf}
 use Rattle.likeness.specs.Measures.{measureOf, goodMeasure, goodThreshold, reaches, isSimilar}
@@ -23,5 +23,5 @@ use Rattle.search.specs.Answers.{questionOf, refusalOf, searchGoodOf, searchOf}
 use Rattle.statements.specs.Figures.{allRight, FiguresRight}
 
 pub figures-right : FiguresRight
-unfolding allRight goodOf headGood nameGood namesGood rowBefore placeDue rowGood rowsGood isName listGood listsWith listsGood nameWord nameId nameSize rowSize rowFeature rowPlace rowLength posting listAt triplesOf allTriples joinRow runsOf listsOf rowWords wordsFrom rowsOf wordsOf insert sortOf member countOf tabulate allBelow anyBelow sumBelow firstCase judgeOf padded packed gramAt timesIn numberAt numbered featuresBy featuresOf sharedOf sumOf firstFrom measureOf goodMeasure goodThreshold reaches isSimilar beside mayReach isSearched leastCount rowIs rowFor listIn orderedFor listsFor heldBy signaturePostings remains remaining touchesAt sharedWith touchesOfSize touchesOf listed passingBelow answersOf divisorF divisorOf lowestTerms questionOf refusalOf searchGoodOf searchOf
+unfolding allRight goodOf headGood nameGood namesGood rowBefore placeDue rowGood rowsGood isName listGood listsWith listsGood nameWord nameId nameSize rowSize rowFeature rowPlace rowLength posting listAt triplesOf allTriples joinRow runsOf listsOf rowWords wordsFrom rowsOf wordsOf insert sortOf member countOf tabulate allBelow anyBelow sumBelow firstCase judgeOf hasControl padded packed gramAt timesIn numberAt numbered featuresBy featuresOf sharedOf sumOf firstFrom measureOf goodMeasure goodThreshold reaches isSimilar beside mayReach isSearched leastCount rowIs rowFor listIn orderedFor listsFor heldBy signaturePostings remains remaining touchesAt sharedWith touchesOfSize touchesOf listed passingBelow answersOf divisorF divisorOf lowestTerms questionOf refusalOf searchGoodOf searchOf
 figures-right = refl

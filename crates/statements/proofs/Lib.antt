@@ -7,3 +7,4 @@ pub mod Building
 pub mod Beyond
 pub mod Frames
 pub mod Program
+pub mod Former

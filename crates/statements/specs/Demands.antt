@@ -115,7 +115,7 @@ after s a = s .written (a .words) (featuresOf (a .query)) (givenBy (answer s a) 
 
 -- ---- demand 1: a list or a numbered refusal
 
--- the refusals, in the order in which they are judged: first those that are judged before the work is counted. They are the query's (1, 2, 3: specs/Names.antt
+-- the refusals, in the order in which they are judged: first those that are judged before the work is counted. They are the query's (1, 2, 3, 12: specs/Names.antt
 -- of `names`), the measure's and the threshold's (4, 5) and the index's (6: specs/Answers.antt of `search`)
 abbrev pub beforeWork : {A : Type 0} → Question A → List Case
 beforeWork a = refusalCases (a .query) (a .measure) (a .p) (a .q) (a .words)
@@ -381,7 +381,7 @@ ofRegister register =
       features = λ (i : ℕ). featuresOf (nameOf (nthLine register i));
     }
 
--- line i of the register, from 0, is judged after the lines before it: 11, 1, 2, 3, 9, 10 in that order, or 0
+-- line i of the register, from 0, is judged after the lines before it: 11, 1, 2, 3, 12, 9, 10 in that order, or 0
 pub record Building (register words : List ℕ) : Type 0 where
   -- the first bad line decides: its number, and its place counted from 1
   pub bad-line : (i : ℕ) → i < length (linesOf register) → ((j : ℕ) → j < i → judgeNth register j ≡ 0) → (judgeNth register i ≡ 0 → ⊥)

@@ -8,6 +8,7 @@ use Prim.Native.Nat.{ℕ}
 use lib.ListN.{length}
 use lib.Dec.{eqb, leb}
 use Rattle.laws.specs.Below.{countBelow}
+use Rattle.names.specs.Names.{judgeOf}
 use Rattle.names.specs.Features.{featuresOf}
 use Rattle.names.specs.Shared.{sharedOf}
 use Rattle.likeness.specs.Measures.{isSimilar}
@@ -69,6 +70,10 @@ shares a b n = record { is = sharedOf (featuresOf a) (featuresOf b); should = n 
 abbrev pub sized : List ℕ → ℕ → Figure
 sized a n = record { is = length (featuresOf a); should = n }
 
+-- the number that a name is judged with
+abbrev pub judged : List ℕ → ℕ → Figure
+judged a n = record { is = judgeOf a; should = n }
+
 -- 1 where the measure finds s shared features of the sizes x and y enough for p/q, 0 where it doesn't
 abbrev pub alike : ℕ → ℕ → ℕ → ℕ → ℕ → ℕ → ℕ → Figure
 alike m p q x y s n = record { is = cond (isSimilar m p q x y s) 1 0; should = n }
@@ -120,6 +125,11 @@ figures =
     ∷ sized aaa 5
     ∷ sized aaaa 6
     ∷ shares aaa aaaa 5
+    ∷ judged (76 ∷ 9 ∷ 78 ∷ []) 12
+    ∷ judged (31 ∷ []) 12
+    ∷ judged (65 ∷ 127 ∷ []) 12
+    ∷ judged (9 ∷ 0 ∷ []) 3
+    ∷ judged (32 ∷ 126 ∷ 128 ∷ 255 ∷ []) 0
     ∷ alike 1 8 13 6 7 4 1
     ∷ alike 1 9 13 6 7 4 0
     ∷ alike 2 4 9 6 7 4 1

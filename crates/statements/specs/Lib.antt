@@ -1,3 +1,4 @@
 pub mod Figures
 pub mod Demands
 pub mod Program
+pub mod Former

@@ -1,5 +1,6 @@
 //! Names: fresh ones, ones like another, and ones that are refused.
 
+use crate::features::control;
 use crate::limits::NAME_BYTES;
 use crate::random::Random;
 
@@ -26,15 +27,18 @@ const WORDS: [&str; 20] = [
     "25m",
 ];
 
-/// A name of a given length: of one letter, of two, of a few, or of any bytes but 0.
+/// Control characters that a keypad may send, and those at the edges: 1 and 31, and 127.
+const CONTROLS: [u8; 7] = [1, 8, 9, 10, 27, 31, 127];
+
+/// A name of a given length: of one letter, of two, of a few, of those at the edges of what passes, or of any that pass.
 pub fn of_length(random: &mut Random, length: usize) -> Vec<u8> {
-    let any: Vec<u8> = (1..=255).collect();
+    let any: Vec<u8> = (0..=255).filter(|byte| !control(*byte)).collect();
     let letters = match random.below(8) {
         0 => b"A".to_vec(),
         1 | 2 => b"AB".to_vec(),
         3 | 4 => b"ABCD".to_vec(),
         5 => b"ABCDEFGHIJKLMNOPQRSTUVWXYZ".to_vec(),
-        6 => vec![1, 254, 255],
+        6 => vec![32, 126, 128, 254, 255],
         _ => any,
     };
     (0..length).map(|_| random.pick(&letters)).collect()
@@ -79,12 +83,13 @@ pub fn short(random: &mut Random) -> Vec<u8> {
     of_length(random, length)
 }
 
-/// A name with one to three edits, still 1 to 64 bytes and without a 0 byte.
+/// A name with one to three edits, still 1 to 64 bytes and without a control character.
 pub fn like(random: &mut Random, name: &[u8]) -> Vec<u8> {
     let mut other = name.to_vec();
     for _ in 0..random.between(1, 3) {
         let at = random.below(other.len());
-        let byte = if random.once_in(2) { random.between(1, 255) as u8 } else { random.pick(&other) };
+        let any = random.between(32, 255) as u8;
+        let byte = if random.once_in(2) && !control(any) { any } else { random.pick(&other) };
         match random.below(7) {
             0 => other[at] = byte,
             1 | 2 if other.len() < NAME_BYTES => other.insert(at, byte),
@@ -102,9 +107,17 @@ pub fn like(random: &mut Random, name: &[u8]) -> Vec<u8> {
     other
 }
 
-/// A name that is refused: empty, too long, holding a 0 byte, or too long and holding one.
+/// A name with a control character other than 0 in the place of one of its bytes.
+pub fn with_control(random: &mut Random, mut name: Vec<u8>) -> Vec<u8> {
+    let at = random.below(name.len());
+    name[at] = random.pick(&CONTROLS);
+    name
+}
+
+/// A name that is refused: empty, too long, holding a 0 byte, too long and holding one, holding another control
+/// character, or holding both.
 pub fn bad(random: &mut Random) -> Vec<u8> {
-    match random.below(6) {
+    match random.below(10) {
         0 => Vec::new(),
         1 | 2 => {
             let length = random.pick(&[65, 65, 66, 67, 128, 254, 255]);
@@ -116,10 +129,21 @@ pub fn bad(random: &mut Random) -> Vec<u8> {
             name[at] = 0;
             name
         }
-        _ => {
+        5 => {
             let mut name = of_length(random, 65);
             let at = random.below(name.len());
-            name[at] = 0;
+            name[at] = random.pick(&[0, 9, 127]);
+            name
+        }
+        6..=8 => {
+            let name = fresh(random);
+            with_control(random, name)
+        }
+        _ => {
+            let mut name = fresh(random);
+            name.truncate(NAME_BYTES - 2);
+            name.insert(random.below(name.len()), 0);
+            name.insert(random.below(name.len()), random.pick(&CONTROLS));
             name
         }
     }

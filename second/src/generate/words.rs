@@ -3,8 +3,8 @@
 use std::collections::BTreeSet;
 
 use crate::build::{words_of, words_of_names, Registered};
-use crate::features::features;
-use crate::generate::registers;
+use crate::features::{features, numbered};
+use crate::generate::{names, registers};
 use crate::index::cut;
 use crate::limits::{LEAST_SIZE, MOST_SIZE, NAMES};
 use crate::random::Random;
@@ -65,7 +65,18 @@ pub fn made_up(random: &mut Random, count: usize, sizes: &[u32], known: &[u32]) 
         .collect()
 }
 
-/// A good index, of a register or made up, with no word beyond its total.
+/// The index of names like a known one that hold control characters, as it was built before these were refused.
+fn former(random: &mut Random, known: &[u8]) -> Vec<u32> {
+    let count = random.between(1, 5);
+    let ids = registers::ids(random, count);
+    let name = |random: &mut Random| {
+        let name = names::like(random, known);
+        numbered(&names::with_control(random, name))
+    };
+    words_of(&ids.into_iter().map(|id| (id, name(random))).collect::<Vec<_>>())
+}
+
+/// A good index, of a register, of names that a register may no longer have, or made up, with no word beyond its total.
 pub fn whole(random: &mut Random, known: &[u8]) -> Vec<u32> {
     match random.below(40) {
         0 => words_of_names(&registers::middling(random)),
@@ -74,6 +85,7 @@ pub fn whole(random: &mut Random, known: &[u8]) -> Vec<u32> {
             words_of(&made_up(random, count, &[3, 4], &[]))
         }
         2..=19 => words_of_names(&registers::small(random)),
+        20 | 21 => former(random, known),
         _ => {
             let known = features(known);
             let near = (known.len() as u32).clamp(LEAST_SIZE, MOST_SIZE);
