@@ -9,8 +9,8 @@ use second::frames::{read_end, read_name, read_query, read_refused, read_row};
 use second::generate::lines::DAMAGES;
 use second::generate::{input, words};
 use second::good::{good, good_but, CONDITIONS};
-use second::index::list_for;
-use second::listed::similarity;
+use second::index::{good_index, list_for};
+use second::listed::{features_of_index, similarity};
 use second::lookup::{lookup, parts};
 use second::measures::{least_count, Measure, Threshold};
 use second::protocol::Kind;
@@ -147,6 +147,28 @@ fn short_lines_are_damaged_too() {
             }
         }
     }
+}
+
+/// Whether these are the features of one name: a first gram, and after each gram but the last the one that goes on from it.
+fn of_a_name(features: &BTreeSet<u32>) -> bool {
+    let grams: Vec<[u8; 4]> = features.iter().map(|feature| feature.to_be_bytes()).collect();
+    let first = grams.iter().filter(|gram| gram[..2] == [0, 0]).count();
+    first == 1 && grams.iter().all(|gram| gram[1..3] == [0, 0] || grams.iter().any(|next| next[..2] == gram[1..3]))
+}
+
+/// Generated indexes hold names with control characters, and names without.
+#[test]
+fn indexes_hold_names_with_control_characters() {
+    let mut counts = [0, 0];
+    for at in 0..200 {
+        let whole = words::whole(&mut Random::of(SEED, 9, at), b"LANES");
+        let index = good_index(&whole).expect("a good index");
+        for (_, features) in features_of_index(&index).iter().filter(|(_, features)| of_a_name(features)) {
+            let mut bytes = features.iter().flat_map(|feature| feature.to_be_bytes()[..3].to_vec());
+            counts[usize::from(bytes.any(|byte| byte != 0 && control(byte)))] += 1;
+        }
+    }
+    assert!(counts[0] > 100 && counts[1] > 10, "{counts:?}");
 }
 
 /// A check of an index that leaves a condition out is found out by the generated words, for each condition but the
