@@ -9,7 +9,7 @@ ghost use Rattle.likeness.specs.Measures.{goodMeasure, goodThreshold};
 ghost use Rattle.laws.specs.Sort.{sortOf};
 ghost use Rattle.names.specs.Names.{judgeOf};
 ghost use Rattle.names.specs.Features.{featuresOf};
-ghost use Rattle.index.specs.Good.{Good, mostNames};
+ghost use Rattle.index.specs.Good.{goodOf, Good, mostNames};
 ghost use Rattle.words.specs.Words.{nameCount, nameId, nameSize};
 ghost use Rattle.sizes.specs.Tables.{idsOf, Covered};
 ghost use Rattle.search.specs.Answers.{questionOf, over, asColumns, Searched};
@@ -201,6 +201,35 @@ fn question(query: &[u8], measure: u8, p: u16, q: u16) -> u8
     0
 }
 
+// The search of words that were checked before: `good` is what index::good answers of them.
+pub fn search_checked(
+    good: bool,
+    query: &[u8],
+    measure: u8,
+    p: u16,
+    q: u16,
+    allowance: u32,
+    words: &[u32],
+    ids: &mut [u32],
+    shared: &mut [u32],
+    sizes: &mut [u32],
+) -> Answer
+    requires { ⌜ good ≡ goodOf (now words) ⌝ }
+    ensures { λ r. ⌜ Searched (now (query .entry)) measure p q allowance (now (words .entry)) (asColumns (now (ids .entry)) (now (shared .entry)) (now (sizes .entry))) (asColumns (now (ids .exit)) (now (shared .exit)) (now (sizes .exit))) r ⌝ }
+{
+    let number = question(query, measure, p, q);
+    if number != 0 {
+        return Answer::Refused { number, touches: 0 };
+    }
+    if !good {
+        return Answer::Refused {
+            number: 6,
+            touches: 0,
+        };
+    }
+    run(query, measure, p, q, allowance, words, ids, shared, sizes)
+}
+
 // The search of words that index::good has passed.
 pub fn search_good(
     query: &[u8],
@@ -216,11 +245,18 @@ pub fn search_good(
     requires { ⌜ Good (now words) ⌝ }
     ensures { λ r. ⌜ Searched (now (query .entry)) measure p q allowance (now (words .entry)) (asColumns (now (ids .entry)) (now (shared .entry)) (now (sizes .entry))) (asColumns (now (ids .exit)) (now (shared .exit)) (now (sizes .exit))) r ⌝ }
 {
-    let number = question(query, measure, p, q);
-    if number != 0 {
-        return Answer::Refused { number, touches: 0 };
-    }
-    run(query, measure, p, q, allowance, words, ids, shared, sizes)
+    search_checked(
+        true,
+        query,
+        measure,
+        p,
+        q,
+        allowance,
+        words,
+        ids,
+        shared,
+        sizes,
+    )
 }
 
 // The search of any words.
@@ -237,15 +273,17 @@ pub fn search(
 ) -> Answer
     ensures { λ r. ⌜ Searched (now (query .entry)) measure p q allowance (now (words .entry)) (asColumns (now (ids .entry)) (now (shared .entry)) (now (sizes .entry))) (asColumns (now (ids .exit)) (now (shared .exit)) (now (sizes .exit))) r ⌝ }
 {
-    let number = question(query, measure, p, q);
-    if number != 0 {
-        return Answer::Refused { number, touches: 0 };
-    }
-    if !index::good(words) {
-        return Answer::Refused {
-            number: 6,
-            touches: 0,
-        };
-    }
-    run(query, measure, p, q, allowance, words, ids, shared, sizes)
+    let good = index::good(words);
+    search_checked(
+        good,
+        query,
+        measure,
+        p,
+        q,
+        allowance,
+        words,
+        ids,
+        shared,
+        sizes,
+    )
 }
