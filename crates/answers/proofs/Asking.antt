@@ -9,10 +9,12 @@ use native.Mathlib.Omega.{arith}
 use lib.ListN.{length, getD, take, drop, length-append, length-map, List·getD-append}
 use lib.Seq.{take-append-seam}
 use lib.Dec.{eqb}
+use Rattle.laws.proofs.Lists.{tabulate-ext}
 use Rattle.laws.proofs.Members.{member-at}
 use Rattle.laws.proofs.Order.{eq-or-ne}
 use Rattle.names.specs.Features.{featuresOf}
 use Rattle.names.proofs.Laws.{size-most}
+use Rattle.lines.specs.Lines.{joined}
 use Rattle.fields.specs.declared.Reading.{Reading}
 use Rattle.fields.specs.Layouts.{isFrame, nameIn, readOf, bufferOf, acceptedAs, refusedWith, longestName}
 use Rattle.fields.proofs.Laws.{read-roomy}
@@ -26,7 +28,7 @@ use Rattle.search.specs.declared.Answer.{Answer}
 use Rattle.search.specs.declared.Answer.the-variants.{Found, Refused}
 use Rattle.search.proofs.Outcomes.{refused-empty, given-found, Answered, answered, shared-most}
 use Rattle.search.proofs.Listed.{over-at, answer-place}
-use Rattle.answers.specs.Output.{rowLine, endLine, refusalLine, rowsText, foundText, answerText, rowsLent, queryIn, measureIn, pIn, qIn, allowanceIn, searchFor, columnsFor, answerOf}
+use Rattle.answers.specs.Output.{rowLine, endLine, refusalLine, rowText, rowsText, foundText, answerText, rowsLent, queryIn, measureIn, pIn, qIn, allowanceIn, searchFor, columnsFor, answerOf}
 use Rattle.answers.specs.Rows.{Shown}
 
 -- ---- what was read
@@ -100,11 +102,9 @@ Agree : Columns → Columns → ℕ → Type 0
 Agree c d n = (k : ℕ) → k < n → (getD (c .ids) k 0 ≡ getD (d .ids) k 0) × (getD (c .shared) k 0 ≡ getD (d .shared) k 0) × (getD (c .sizes) k 0 ≡ getD (d .sizes) k 0)
 
 rows-same : (c d : Columns) (n : ℕ) → Agree c d n → rowsText c n ≡ rowsText d n
-unfolding rowsText Agree
-rows-same c d zero e = refl
-rows-same c d (suc n) e =
-    let h = e n (omega arith) in
-    ap₂ (λ (x y : List ℕ). x ++ y) (rows-same c d n (λ k l. e k (omega arith))) (λ t. rowLine (h .0 t) (h .1 t) (h .2 t))
+unfolding Agree
+rows-same c d n e =
+    ap joined (tabulate-ext (rowText c) (rowText d) n (λ k h. let g = e k h in λ t. rowLine (g .0 t) (g .1 t) (g .2 t)))
 
 text-agrees : (r : Answer) (c d : Columns) → (numberIn r ≡ 0 → Agree c d (rowsIn r)) → answerText r c ≡ answerText r d
 unfolding answerText foundText

@@ -28,7 +28,7 @@ use Rattle.search.specs.declared.Answer.the-variants.{Found, Refused}
 use Rattle.answers.specs.declared.Opened.{Opened}
 use Rattle.answers.specs.Output.{rowLine, endLine, refusalLine, rowText, rowsText, foundText, answerText, searchFor, columnsFor, answerOf, endsAnswer, answerLines, queriesOf, openedOf, openWords, programWords, answersText, outputOf}
 use Rattle.lines.proofs.Cut.{Line, Ended, lines-joined, joined-append, ended-behind, ended-each, broken-fewer}
-use Rattle.answers.proofs.Reading.{one-line}
+use Rattle.fields.proofs.Fitted.{one-line}
 use Rattle.answers.proofs.Responding.{output-opened, output-refused}
 
 -- ---- which lines end an answer
@@ -89,12 +89,6 @@ refusal-ended number touches =
 -- ---- the lines of one answer
 
 module _ (c : Columns) where
-  rows-joined : (n : ℕ) → rowsText c n ≡ joined (tabulate (rowText c) n)
-  unfolding rowsText tabulate joined
-  rows-joined zero = refl
-  rows-joined (suc n) =
-      ap₂ _++_ (rows-joined n) (sym (append-nil (rowText c n))) ∙ sym (joined-append (tabulate (rowText c) n) (rowText c n ∷ []))
-
   rows-go-on : (n : ℕ) → countOf endsAnswer (tabulate (rowText c) n) ≡ 0
   unfolding tabulate countOf
   rows-go-on zero = refl
@@ -105,7 +99,7 @@ module _ (c : Columns) where
   answer-joined : (r : Answer) → answerText r c ≡ joined (answerLines r c)
   unfolding answerText foundText answerLines joined
   answer-joined (Found rows touches p q) =
-      ap₂ _++_ (rows-joined rows) (sym (append-nil (endLine rows touches p q))) ∙ sym (joined-append (tabulate (rowText c) rows) (endLine rows touches p q ∷ []))
+      ap (λ (t : List ℕ). rowsText c rows ++ t) (sym (append-nil (endLine rows touches p q))) ∙ sym (joined-append (tabulate (rowText c) rows) (endLine rows touches p q ∷ []))
   answer-joined (Refused number touches) = sym (append-nil (refusalLine number touches))
 
   answer-ended : (r : Answer) → Ended endsAnswer (answerLines r c)

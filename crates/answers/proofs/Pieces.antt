@@ -15,18 +15,12 @@ use Rattle.index_writer.specs.Written.{blank}
 use Rattle.register.specs.Build.{builtOf}
 use Rattle.register.proofs.Names.{same-build}
 use Rattle.answers.specs.declared.Opened.{Opened}
-use Rattle.answers.specs.Output.{mostInput, registerEnd, registerOf, programWords, longestAnswer, openedOf, openWords, answerOf, fittingOf, fittedOf, lineText, respondedOf, answersText, outputOf}
-use Rattle.answers.proofs.Text.{fitting-all, fitted-all}
+use Rattle.answers.specs.Output.{mostInput, registerEnd, registerOf, programWords, longestAnswer, openedOf, openWords, answerOf, lineText, respondedOf, answersText, outputOf}
+use Rattle.fields.proofs.Fitted.{fitting-whole}
 use Rattle.answers.proofs.Reading.{answer-most}
 use Rattle.answers.proofs.Responding.{text-first, text-end, output-opened}
 
 -- ---- an answer in a buffer that holds the longest
-
-pub fitting-whole : (text : List ℕ) (room : ℕ) → length text ≤ room → fittingOf text room ≡ record { number = 0; len = length text }
-fitting-whole text room h = sym (fitting-all text room (length text) refl h)
-
-pub fitted-whole : (text out : List ℕ) → length text ≤ length out → take (length text) (fittedOf text out) ≡ text
-fitted-whole text out h = ap (take (length text)) (sym (fitted-all text out (length text) refl h)) ∙ take-at text (drop (length text) out) (length text) refl
 
 module _ (w input : List ℕ) (at : ℕ) where
   pub line-most : length (lineText w input at) ≤ longestAnswer

@@ -1,10 +1,10 @@
--- What an answer's lines say: each is one line, and reads back as what the search found.
+-- What an answer's lines say: each reads back as what the search found.
 -- Assumes nothing.
-use mathlib.Core.Path.{_≡_, refl, sym, ap, ap₂, _∙_}
+use mathlib.Core.Path.{_≡_, refl, ap}
 use mathlib.Core.Logic.{⊎-elim}
 use mathlib.Core.Bool.{Bool, true, false, cond}
-use mathlib.Core.List.{List, [], _∷_, _++_, append-nil, append-assoc}
-use Prim.Native.Nat.{ℕ, zero, suc, _+_, _*_, _/_, _%_, _≤_, _<_}
+use mathlib.Core.List.{List, []}
+use Prim.Native.Nat.{ℕ, _*_, _≤_, _<_}
 use native.Mathlib.Omega.{arith}
 use lib.ListN.{length, getD}
 use lib.Dec.{eqb}
@@ -15,16 +15,14 @@ use Rattle.names.specs.Features.{featuresOf}
 use Rattle.likeness.specs.Terms.{lowestTerms}
 use Rattle.likeness.proofs.Measures.{threshold-facts}
 use Rattle.likeness.proofs.Terms.{lowest-good}
-use Rattle.hex.specs.Lines.{digits, digitOf, hexOf, hexLine}
+use Rattle.hex.specs.Lines.{hexOf, hexLine}
 use Rattle.hex.specs.Numbers.{bytesFor}
 use Rattle.fields.specs.Layouts.{lineOf, fieldBytes, nameBytes, isFrame, readOf}
-use Rattle.fields.specs.declared.Layout.{Layout}
 use Rattle.frames.specs.declared.RowRead.the-variants.{Row}
 use Rattle.frames.specs.declared.EndRead.the-variants.{End}
 use Rattle.frames.specs.declared.RefusalRead.the-variants.{Refusal}
 use Rattle.frames.specs.Frames.{queryFrame, rowFrame, endFrame, refusalFrame, rowOut, endOut, refusalOut, refusalLineLength}
 use Rattle.frames.proofs.RoundTrips.{read-write-row, read-write-end, read-write-refusal}
-use Rattle.lines.specs.Lines.{linesOf, joinLine, lineFeed}
 use Rattle.sizes.specs.Method.{touchesOf, answersOf}
 use Rattle.search.specs.Answers.{numberIn, rowsIn, Columns}
 use Rattle.search.specs.declared.Answer.{Answer}
@@ -33,40 +31,6 @@ use Rattle.search.proofs.Outcomes.{refused-empty, Answered, answered}
 use Rattle.answers.specs.Output.{endLine, refusalLine, rowText, answerText, rowsLent, longestAnswer, queryIn, measureIn, pIn, qIn, allowanceIn, searchFor, columnsFor, answerOf}
 use Rattle.answers.specs.Rows.{Shown}
 use Rattle.answers.proofs.Text.{length-found}
-use Rattle.lines.proofs.Cut.{NoFeed, Line}
-
--- ---- a line feed stands at the end of a line alone
-
-digit-no-feed : (n : ℕ) → digitOf n ≡ lineFeed → ⊥
-unfolding digitOf
-digit-no-feed n e = none digits (tt-all) n e
-  where
-    above : List ℕ → Type 0
-    above [] = Unit {0}
-    above (b ∷ l) = (10 < b) × above l
-
-    tt-all : above digits
-    tt-all = (omega arith, (omega arith, (omega arith, (omega arith, (omega arith, (omega arith, (omega arith, (omega arith, (omega arith, (omega arith, (omega arith, (omega arith, (omega arith, (omega arith, (omega arith, (omega arith, tt))))))))))))))))
-
-    none : (l : List ℕ) → above l → (n : ℕ) → getD l n 0 ≡ 10 → ⊥
-    none [] a n e = omega arith
-    none (b ∷ l) a zero e = let h = a .0 in omega arith
-    none (b ∷ l) a (suc n) e = none l (a .1) n e
-
-hex-no-feed : (s : List ℕ) → NoFeed (hexOf s)
-unfolding hexOf
-hex-no-feed [] = tt
-hex-no-feed (b ∷ s) = (digit-no-feed (b / 16), (digit-no-feed (b % 16), hex-no-feed s))
-
--- so a frame's line is one
-pub one-line : (y : Layout) (f : List ℕ) → Line (lineOf y f [])
-unfolding lineOf hexLine
-one-line y f =
-    record {
-      text = hexOf (y .kind ∷ (fieldBytes (y .widths) f ++ nameBytes (y .named) []));
-      plain = hex-no-feed (y .kind ∷ (fieldBytes (y .widths) f ++ nameBytes (y .named) []));
-      ended = refl;
-    }
 
 -- ---- each line reads back
 

@@ -15,10 +15,11 @@ use borrow.Author.Tests.{eq-eqb, ne-eqb, lt-ltb, le-ltb}
 use Rattle.fields.specs.declared.Written.{Written}
 use Rattle.lines.specs.Lines.{linesOf, lineLength}
 use Rattle.lines.proofs.Lines.{line-some, lines-nil, lines-step, length-line-end}
-use Rattle.answers.proofs.Text.{fitting-all, fitted-all, fitting-within}
+use Rattle.fields.specs.Fitted.{fittingOf, fittedOf}
+use Rattle.fields.proofs.Fitted.{fitting-all, fitted-all, fitting-within}
 use Rattle.answers.specs.declared.Response.{Response}
 use Rattle.answers.specs.declared.Opened.{Opened}
-use Rattle.answers.specs.Output.{registerEnd, queriesOf, openedOf, openWords, programWords, refusalLine, answerOf, fittingOf, fittedOf, lineText, respondedOf, answersText, outputOf}
+use Rattle.answers.specs.Output.{registerEnd, queriesOf, openedOf, openWords, programWords, refusalLine, answerOf, lineText, respondedOf, answersText, outputOf}
 
 module _ (w input : List ℕ) (at : ℕ) where
   -- past the end

@@ -2,15 +2,15 @@
 -- Assumes nothing.
 use mathlib.Core.Bool.{Bool, cond, _&&_, _||_}
 use mathlib.Core.List.{List, [], _∷_, _++_}
-use Prim.Native.Nat.{ℕ, zero, suc, _+_, _*_}
+use Prim.Native.Nat.{ℕ, _+_, _*_}
 use lib.ListN.{length, getD, take, drop, replicate}
-use lib.Dec.{eqb, leb, ltb}
+use lib.Dec.{eqb, ltb}
 use Rattle.laws.specs.Lists.{tabulate}
 use Rattle.names.specs.Features.{featuresOf}
-use Rattle.fields.specs.declared.Written.{Written}
 use Rattle.fields.specs.Layouts.{isFrame, fieldsIn, nameIn, lineOf}
+use Rattle.fields.specs.Fitted.{fittingOf}
 use Rattle.frames.specs.Frames.{queryFrame, rowFrame, endFrame, refusalFrame, rowLineLength, endLineLength}
-use Rattle.lines.specs.Lines.{linesOf, lineLength}
+use Rattle.lines.specs.Lines.{linesOf, lineLength, joined}
 use Rattle.index_writer.specs.Written.{blank}
 use Rattle.register.specs.Build.{builtOf, wordsAfter}
 use Rattle.search.specs.Answers.{searchOf, Columns, columnsOf, placesGiven}
@@ -78,9 +78,8 @@ abbrev pub rowText : Columns → ℕ → List ℕ
 rowText c k = rowLine (getD (c .ids) k 0) (getD (c .shared) k 0) (getD (c .sizes) k 0)
 
 -- the lines of the first n rows
-unfoldable pub rowsText : Columns → ℕ → List ℕ
-rowsText c zero = []
-rowsText c (suc k) = rowsText c k ++ rowText c k
+abbrev pub rowsText : Columns → ℕ → List ℕ
+rowsText c n = joined (tabulate (rowText c) n)
 
 -- the lines of rows that were found, and their end
 unfoldable pub foundText : ℕ → ℕ → ℕ → ℕ → Columns → List ℕ
@@ -130,14 +129,6 @@ columnsFor w line = columnsOf w (featuresOf (queryIn line)) (placesFor w line)
 -- the lines that a query line is answered with; a line that is no 51 frame is refused with 11 and 0 touches
 unfoldable pub answerOf : List ℕ → List ℕ → List ℕ
 answerOf w line = cond (isFrame queryFrame line) (answerText (searchFor w line) (columnsFor w line)) (refusalLine 11 0)
-
--- ---- lines into a lent buffer: all of them or, where they do not fit, none and 8
-
-unfoldable pub fittingOf : List ℕ → ℕ → Written
-fittingOf text room = cond (leb (length text) room) (record { number = 0; len = length text }) (record { number = 8; len = 0 })
-
-unfoldable pub fittedOf : List ℕ → List ℕ → List ℕ
-fittedOf text out = cond (leb (length text) (length out)) (text ++ drop (length text) out) out
 
 -- ---- line by line
 

@@ -1,15 +1,16 @@
 // What an input becomes: its register lines an index, each of its query lines the lines of an answer. Over lent bytes, so that a program has only to
-// read and to write. The rule: docs/RULE.md, "The program"; the definitions: specs/.
+// read and to write. The rule: docs/RULE.md, "The program lookup"; the definitions: specs/.
 ghost use mathlib.Core.Path.{_≡_};
 ghost use mathlib.Core.Bool.{true};
 ghost use mathlib.Core.List.{_++_};
 ghost use Prim.Native.Nat.{_+_, _*_, _≤_, _<_};
 ghost use lib.ListN.{length, take, drop};
 ghost use Rattle.fields.specs.Layouts.{longestName};
+ghost use Rattle.fields.specs.Fitted.{fittingOf, fittedOf};
 ghost use Rattle.frames.specs.Frames.{rowLineLength};
 ghost use Rattle.index.specs.Good.{Good};
 ghost use Rattle.search.specs.Answers.{rowsIn, asColumns, Searched};
-ghost use Rattle.answers.specs.Output.{begins, registerEnd, openedOf, openWords, rowLine, rowsText, rowsLent, foundText, answerText, answerOf, fittingOf, fittedOf, lineText, respondedOf};
+ghost use Rattle.answers.specs.Output.{begins, registerEnd, openedOf, openWords, rowLine, rowsText, rowsLent, foundText, answerText, answerOf, lineText, respondedOf};
 ghost use Rattle.answers.specs.Rows.{Shown};
 use fields::Written;
 use search::Answer;
@@ -48,7 +49,7 @@ fn begins_query(input: &[u8], at: usize) -> bool
 }
 
 // Where the register ends: at the first line that begins with 51, or at the end of the input.
-fn register_end(input: &[u8]) -> usize
+pub fn register_end(input: &[u8]) -> usize
     ensures { λ r. ⌜ (r ≡ registerEnd (now (input .entry))) × (r ≤ length (now (input .entry))) ⌝ }
 {
     let mut at = 0;

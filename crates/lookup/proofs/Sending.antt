@@ -9,12 +9,13 @@ use lib.Seq.{take-length}
 use Rattle.index.specs.Good.{Good}
 use Rattle.lines.specs.Lines.{linesOf, lineLength}
 use Rattle.answers.specs.declared.Response.{Response}
-use Rattle.answers.specs.Output.{mostInput, programWords, longestAnswer, openedOf, openWords, refusalLine, fittedOf, lineText, respondedOf, answersText, outputOf}
+use Rattle.answers.specs.Output.{mostInput, programWords, longestAnswer, openedOf, openWords, refusalLine, lineText, respondedOf, answersText, outputOf}
 use Rattle.answers.proofs.Input.{opened-good}
-use Rattle.answers.proofs.Text.{length-fitted}
+use Rattle.fields.specs.Fitted.{fittedOf}
+use Rattle.fields.proofs.Fitted.{length-fitted, fitted-whole}
 use Rattle.answers.proofs.Reading.{refusal-length}
 use Rattle.answers.proofs.Responding.{responded-next, output-refused}
-use Rattle.answers.proofs.Pieces.{fitted-whole, line-most, responded-whole, next-line, piece-first, piece-rest, piece-within, pieces-end, pieces-begin, opened-few}
+use Rattle.answers.proofs.Pieces.{line-most, responded-whole, next-line, piece-first, piece-rest, piece-within, pieces-end, pieces-begin, opened-few}
 use Rattle.lookup.specs.Pieces.{Next, Opened}
 
 -- a text that stands at the start of the buffer and is the next of the output

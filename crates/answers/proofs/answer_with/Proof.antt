@@ -1,12 +1,14 @@
 -- `answer_with` meets its contract: a line that is no query is refused, and of any other the answer's text is that of the lent columns.
 use mathlib.Core.Path.{_≡_, sym, ap, _∙_}
-use mathlib.Core.List.{List}
+use mathlib.Core.List.{List, [], _∷_}
 use Prim.Native.Nat.{ℕ}
 use lib.ListN.{length, take}
 use lib.Seq.{length-take-le}
 use Rattle.search.specs.Answers.{asColumns, roomOf, Searched}
-use Rattle.answers.specs.Output.{rowsLent, fittingOf, fittedOf}
-use Rattle.answers.proofs.Text.{refusal-fitting, refusal-fitted}
+use Rattle.answers.specs.Output.{rowsLent}
+use Rattle.fields.specs.Fitted.{fittingOf, fittedOf}
+use Rattle.fields.proofs.Fitted.{written-plain, out-plain}
+use Rattle.frames.specs.Frames.{refusalFrame}
 use Rattle.answers.proofs.Asking.{query-frame, query-bad, query-measure, query-p, query-q, query-allowance, query-within, query-bytes, shown, answer-as, room-lent}
 use borrow.Author.Needs.{needs}
 use Rattle.answers.proofs.answer_with.Statement.{statement}
@@ -31,8 +33,8 @@ returns c =
     let y = c .before .before .before .before .before .before .before .read-query in
     let v = c .before .before .write-refusal .ensures in
     let t = query-bad (a .line .now) (a .query .now) (y .last .1 .0) (y .result) (b .pre .1) (y .ensures .0) (y .ensures .1) (a .words .now) (c .before .before .before .before .if1 .taken) in (
-      v .0 ∙ refusal-fitting (y .result .number) 0 (length (a .out .now)) ∙ ap (λ (x : List ℕ). fittingOf x (length (a .out .now))) t,
-      v .1 ∙ refusal-fitted (y .result .number) 0 (a .out .now) ∙ ap (λ (x : List ℕ). fittedOf x (a .out .now)) t,
+      v .0 ∙ written-plain refusalFrame (y .result .number ∷ 0 ∷ []) (length (a .out .now)) ∙ ap (λ (x : List ℕ). fittingOf x (length (a .out .now))) t,
+      v .1 ∙ out-plain refusalFrame (y .result .number ∷ 0 ∷ []) (a .out .now) ∙ ap (λ (x : List ℕ). fittedOf x (a .out .now)) t,
     )
 
 slice-reshare-prefix-ask : tie.Need-slice-reshare-prefix-ask

@@ -4,9 +4,11 @@ use mathlib.Core.List.{List}
 use Prim.Native.Nat.{ℕ}
 use lib.ListN.{length}
 use Rattle.search.specs.Answers.{rowsIn, asColumns}
-use Rattle.answers.specs.Output.{fittingOf, fittedOf}
+use Rattle.fields.specs.Fitted.{fittingOf, fittedOf}
+use Rattle.fields.proofs.Fitted.{written-plain, out-plain}
+use Rattle.frames.specs.Frames.{refusalFrame}
 use Rattle.answers.specs.Rows.{Shown}
-use Rattle.answers.proofs.Text.{text-found, text-refused, refusal-fitting, refusal-fitted}
+use Rattle.answers.proofs.Text.{text-found, text-refused}
 use borrow.Author.Needs.{needs}
 use Rattle.answers.proofs.put_answer.Statement.{statement}
 use Rattle.answers.proofs.put_answer.Tie as tie
@@ -46,8 +48,8 @@ returns-2 c =
     let g = c .before .before .before .before .before .answer2 .given in
     let e = c .before .before .write-refusal .ensures in
     let t = text-refused (a .answer) _ _ (asColumns (a .ids .now) (a .shared .now) (a .sizes .now)) (g .1) in (
-      e .0 ∙ refusal-fitting _ _ (length (a .out .now)) ∙ ap (λ (s : List ℕ). fittingOf s (length (a .out .now))) t,
-      e .1 ∙ refusal-fitted _ _ (a .out .now) ∙ ap (λ (s : List ℕ). fittedOf s (a .out .now)) t,
+      e .0 ∙ written-plain refusalFrame _ (length (a .out .now)) ∙ ap (λ (s : List ℕ). fittingOf s (length (a .out .now))) t,
+      e .1 ∙ out-plain refusalFrame _ (a .out .now) ∙ ap (λ (s : List ℕ). fittedOf s (a .out .now)) t,
     )
 
 pub put-answer-spec : {M : Type 1} → statement M

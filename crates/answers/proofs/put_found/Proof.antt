@@ -9,7 +9,8 @@ use borrow.Rule.Slice.PartMut.{putMid}
 use Rattle.search.specs.Answers.{asColumns}
 use Rattle.frames.specs.Frames.{rowLineLength, endLineLength}
 use Rattle.answers.specs.Output.{rowsText, endLine, foundText}
-use Rattle.answers.proofs.Text.{length-rows, length-found, end-exact, put-end, fitting-none, fitted-none, fitting-all, fitted-found}
+use Rattle.fields.proofs.Fitted.{fitting-none, fitted-none, fitting-all, put-behind}
+use Rattle.answers.proofs.Text.{length-rows, length-found, end-exact, fitted-found}
 use borrow.Author.Needs.{needs}
 use Rattle.answers.proofs.put_found.Statement.{statement}
 use Rattle.answers.proofs.put_found.Tie as tie
@@ -79,7 +80,7 @@ returns-2 c =
     let t = length-take-le ((rowLineLength * a .rows + endLineLength) - rowLineLength * a .rows) (drop (rowLineLength * a .rows) u) (omega arith) in
     let z = c .before .before .write-end in (
       fitting-all (foundText (a .rows) (a .touches) (a .p) (a .q) (asColumns (a .ids .now) (a .shared .now) (a .sizes .now))) (length (a .out .now)) (rowLineLength * a .rows + endLineLength) (length-found (a .rows) (a .touches) (a .p) (a .q) (asColumns (a .ids .now) (a .shared .now) (a .sizes .now))) (omega arith),
-      put-end r (a .out .now) (z .last .0) (endLine (a .rows) (a .touches) (a .p) (a .q)) (rowLineLength * a .rows) ((rowLineLength * a .rows + endLineLength) - rowLineLength * a .rows) l k
+      put-behind r (a .out .now) (z .last .0) (endLine (a .rows) (a .touches) (a .p) (a .q)) (rowLineLength * a .rows) ((rowLineLength * a .rows + endLineLength) - rowLineLength * a .rows) endLineLength l k
           (z .ensures .1 ∙ end-exact (a .rows) (a .touches) (a .p) (a .q) (take ((rowLineLength * a .rows + endLineLength) - rowLineLength * a .rows) (drop (rowLineLength * a .rows) u)) (t ∙ k))
           ∙ ap (λ (s : List ℕ). (s ++ endLine (a .rows) (a .touches) (a .p) (a .q)) ++ drop (rowLineLength * a .rows + endLineLength) (a .out .now)) (y .ensures)
           ∙ fitted-found (a .rows) (a .touches) (a .p) (a .q) (asColumns (a .ids .now) (a .shared .now) (a .sizes .now)) (a .out .now) (omega arith),

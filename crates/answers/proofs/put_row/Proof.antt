@@ -6,7 +6,8 @@ use lib.ListN.{length, take, drop, length-drop}
 use lib.Seq.{length-take-le}
 use Rattle.frames.specs.Frames.{rowLineLength}
 use Rattle.answers.specs.Output.{rowLine}
-use Rattle.answers.proofs.Text.{row-exact, put-line}
+use Rattle.fields.proofs.Fitted.{put-line}
+use Rattle.answers.proofs.Text.{row-exact}
 use borrow.Author.Needs.{needs}
 use Rattle.answers.proofs.put_row.Statement.{statement}
 use Rattle.answers.proofs.put_row.Tie as tie
@@ -50,7 +51,7 @@ returns c =
     let k : (rowLineLength * a .k + rowLineLength) - rowLineLength * a .k ≡ rowLineLength = omega arith in
     let n = length-drop (rowLineLength * a .k) w in
     let l = length-take-le ((rowLineLength * a .k + rowLineLength) - rowLineLength * a .k) (drop (rowLineLength * a .k) w) (omega arith) in
-    put-line (rowLineLength * a .k) ((rowLineLength * a .k + rowLineLength) - rowLineLength * a .k) w (c .before .before .write-row .last .0) (rowLine (a .id) (a .shared) (a .size)) k
+    put-line rowLineLength (rowLineLength * a .k) ((rowLineLength * a .k + rowLineLength) - rowLineLength * a .k) w (c .before .before .write-row .last .0) (rowLine (a .id) (a .shared) (a .size)) k
     (c .before .before .write-row .ensures .1 ∙ row-exact (a .id) (a .shared) (a .size) (take ((rowLineLength * a .k + rowLineLength) - rowLineLength * a .k) (drop (rowLineLength * a .k) w)) (l ∙ k))
 
 pub put-row-spec : {M : Type 1} → statement M

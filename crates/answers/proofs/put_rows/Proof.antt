@@ -4,11 +4,12 @@ use mathlib.Core.List.{List, _++_}
 use Prim.Native.Nat.{ℕ, _+_, _-_, _*_, _≤_, _<_}
 use native.Mathlib.Omega.{arith}
 use borrow.Author.Needs.{needs}
-use lib.ListN.{length, take, drop, length-append, length-drop}
+use lib.ListN.{length, take, drop}
 use Rattle.search.specs.Answers.{asColumns}
 use Rattle.frames.specs.Frames.{rowLineLength}
 use Rattle.answers.specs.Output.{rowText, rowsText}
-use Rattle.answers.proofs.Text.{length-rows, rows-none, rows-more, rows-all}
+use Rattle.lines.proofs.Evenly.{texts-none, texts-more, texts-all, length-kept}
+use Rattle.answers.proofs.Text.{row-even}
 use Rattle.answers.proofs.put_rows.Statement.{statement}
 use Rattle.answers.proofs.put_rows.Tie as tie
 
@@ -21,7 +22,8 @@ abbrev μ-loop : tie.MeasureT-loop
 loop-holds : tie.Need-loop-holds Inv-loop μ-loop
 loop-holds c =
     let a = c .before .before .before .before .args in
-    (omega arith, rows-none (asColumns (a .ids .now) (a .shared .now) (a .sizes .now)) (a .out .now))
+    let r = asColumns (a .ids .now) (a .shared .now) (a .sizes .now) in
+    (omega arith, texts-none (rowText r) rowLineLength (row-even r) (a .out .now))
 
 mul-put-row : tie.Need-mul-put-row Inv-loop μ-loop
 mul-put-row c = search needs
@@ -59,10 +61,8 @@ put-row-requires c κs =
     let p = b .pre .0 in
     let few = p .few in
     let n = b .pre .1 in
-    let e = ap length (l .inv .1) in
-    let f = length-append (rowsText (asColumns (a .ids .now) (a .shared .now) (a .sizes .now)) (l .k)) (drop (rowLineLength * l .k) (a .out .now)) in
-    let g = length-rows (asColumns (a .ids .now) (a .shared .now) (a .sizes .now)) (l .k) in
-    let h = length-drop (rowLineLength * l .k) (a .out .now) in
+    let r = asColumns (a .ids .now) (a .shared .now) (a .sizes .now) in
+    let e = ap length (l .inv .1) ∙ length-kept (rowText r) rowLineLength (row-even r) (a .out .now) (l .k) (omega arith) in
     (p .id (l .k) t, p .share (l .k) t, p .size (l .k) t, omega arith, omega arith)
 
 add-k : tie.Need-add-k Inv-loop μ-loop
@@ -84,11 +84,12 @@ loop-again c =
     let t = c .before .before .before .before .before .before .before .loop-test .taken in
     let n = b .pre .1 in
     let k = l .k in
-    let line = rowText (asColumns (a .ids .now) (a .shared .now) (a .sizes .now)) k in (
+    let r = asColumns (a .ids .now) (a .shared .now) (a .sizes .now) in
+    let line = rowText r k in (
       omega arith,
       c .before .before .put-row .ensures
           ∙ ap (λ (s : List ℕ). take (rowLineLength * k) s ++ (line ++ drop (rowLineLength * k + rowLineLength) s)) (l .inv .1)
-          ∙ rows-more (asColumns (a .ids .now) (a .shared .now) (a .sizes .now)) (a .out .now) k (omega arith),
+          ∙ texts-more (rowText r) rowLineLength (row-even r) (a .out .now) k,
     )
 
 same-length : tie.Need-same-length Inv-loop μ-loop
@@ -98,12 +99,8 @@ same-length c =
     let l = c .before .loop in
     let n = b .pre .1 in
     let i = l .inv .0 in
-    let e = ap length (l .inv .1) in
-    let f = length-append (rowsText (asColumns (a .ids .now) (a .shared .now) (a .sizes .now)) (l .k)) (drop (rowLineLength * l .k) (a .out .now)) in
-    let g = length-rows (asColumns (a .ids .now) (a .shared .now) (a .sizes .now)) (l .k) in
-    let h = length-drop (rowLineLength * l .k) (a .out .now) in
-    let r : length (l .out) ≡ length (a .out .now) = omega arith in
-    r
+    let r = asColumns (a .ids .now) (a .shared .now) (a .sizes .now) in
+    ap length (l .inv .1) ∙ length-kept (rowText r) rowLineLength (row-even r) (a .out .now) (l .k) (omega arith)
 
 returns : tie.Need-returns Inv-loop μ-loop
 returns c =
@@ -113,9 +110,10 @@ returns c =
     let left = c .loop-test .left in
     let i = l .inv .0 in
     let k : l .k ≡ a .n = omega arith in
+    let r = asColumns (a .ids .now) (a .shared .now) (a .sizes .now) in
     l .inv .1
-    ∙ ap (λ (m : ℕ). rowsText (asColumns (a .ids .now) (a .shared .now) (a .sizes .now)) m ++ drop (rowLineLength * m) (a .out .now)) k
-    ∙ rows-all (asColumns (a .ids .now) (a .shared .now) (a .sizes .now)) (a .out .now) (a .n) (b .pre .1)
+    ∙ ap (λ (m : ℕ). rowsText r m ++ drop (rowLineLength * m) (a .out .now)) k
+    ∙ texts-all (rowText r) rowLineLength (row-even r) (a .out .now) (a .n) (b .pre .1)
 
 pub put-rows-spec : {M : Type 1} → statement M
 put-rows-spec =
