@@ -1,23 +1,13 @@
 // The program: standard input to an index and queries, and their answers to standard output. What it writes for an input is `outputOf` of
 // crates/answers/specs/Output.antt: one refusal, or the answers of the query lines in order. Each piece that it hands to a write is shown to be the
 // next piece of that. An input that cannot be read is no input: nothing is answered. A read or a write that fails is said on standard error.
-use libc::EINTR;
-use libc::STDIN_FILENO;
-use libc::STDOUT_FILENO;
+use streams::Input;
 ghost use mathlib.Core.Path.{_≡_};
 ghost use mathlib.Core.Bool.{true};
 ghost use Prim.Native.Nat.{_+_, _≤_, _<_};
 ghost use lib.ListN.{length};
 ghost use Rattle.answers.specs.Output.{mostInput, programWords, longestAnswer, openedOf, outputOf};
 ghost use Rattle.lookup.specs.Pieces.{Next, Opened};
-
-// How often a read of the input, or a write of one piece, that a signal interrupted is made again.
-const PATIENCE: usize = 65536;
-
-// Whether the call that just failed was interrupted by a signal before it moved a byte.
-fn interrupted() -> bool {
-    os::errno() == EINTR
-}
 
 // ---- reading
 
@@ -28,43 +18,12 @@ fn room() -> [u8; answers::MOST_INPUT + 1]
     [0; answers::MOST_INPUT + 1]
 }
 
-// What reading came to: how many bytes, and whether no read failed.
-struct Input {
-    len: usize,
-    whole: bool,
-}
-
 // Reads standard input until it ends or the room is full.
 fn read_input(space: &mut [u8]) -> Input
     requires { ⌜ length (now space) ≡ mostInput + 1 ⌝ }
     ensures { λ r. ⌜ r .len ≤ length (now (space .exit)) ⌝ }
 {
-    let mut done: usize = 0;
-    let mut patience = PATIENCE;
-    while done < space.len() {
-        let got = libc::read(STDIN_FILENO, &mut space[done..]);
-        let more = io::count(got, &space[done..]);
-        if more == 0 {
-            if got == 0 {
-                return Input {
-                    len: done,
-                    whole: true,
-                };
-            }
-            if patience == 0 || !interrupted() {
-                return Input {
-                    len: 0,
-                    whole: false,
-                };
-            }
-            patience -= 1;
-        }
-        done += more;
-    }
-    Input {
-        len: done,
-        whole: true,
-    }
+    streams::read_input(space)
 }
 
 // ---- writing
@@ -75,35 +34,12 @@ struct Sent {
     whole: bool,
 }
 
-// Writes the text to standard output by as many calls as it takes, and answers how many of its bytes they took: fewer than all where one failed.
-fn write_text(text: &[u8]) -> usize
-    ensures { λ r. ⌜ r ≤ length (now (text .entry)) ⌝ }
-{
-    let mut done: usize = 0;
-    let mut patience = PATIENCE;
-    while done < text.len() {
-        let got = libc::write(STDOUT_FILENO, &text[done..]);
-        let more = io::count(got, &text[done..]);
-        if more == 0 {
-            if got == 0 {
-                return done;
-            }
-            if patience == 0 || !interrupted() {
-                return done;
-            }
-            patience -= 1;
-        }
-        done += more;
-    }
-    done
-}
-
 // Hands over the next piece of the output: the first `len` bytes of the buffer, after the `sent` bytes before them.
 fn hand_over(input: &[u8], sent: usize, number: u8, len: usize, out: &[u8]) -> Sent
     requires { ⌜ Next (now input) sent number len (now out) ⌝ }
     ensures { λ r. ⌜ (r .whole ≡ true → r .bytes ≡ sent + len) ⌝ }
 {
-    let taken = write_text(&out[..len]);
+    let taken = streams::write_text(&out[..len]);
     Sent {
         bytes: sent + taken,
         whole: taken == len,

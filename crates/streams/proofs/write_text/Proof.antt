@@ -5,14 +5,14 @@ use Prim.Native.Nat.{ℕ, _+_, _-_, _≤_, _<_}
 use native.Mathlib.Omega.{arith}
 use borrow.Author.Needs.{needs}
 use lib.ListN.{length}
-use Rattle.lookup.proofs.write_text.Statement.{statement}
-use Rattle.lookup.proofs.write_text.Tie as tie
+use Rattle.streams.proofs.write_text.Statement.{statement}
+use Rattle.streams.proofs.write_text.Tie as tie
 
 abbrev Inv-loop : tie.InvT-loop
-Inv-loop text done₀ patience₀ done patience = done ≤ length text
+Inv-loop text taken₀ patience₀ taken patience = taken ≤ length text
 
 abbrev μ-loop : tie.MeasureT-loop
-μ-loop text done₀ patience₀ done patience = length text - done + patience
+μ-loop text taken₀ patience₀ taken patience = length text - taken + patience
 
 loop-holds : tie.Need-loop-holds Inv-loop μ-loop
 loop-holds c = search needs
@@ -53,8 +53,8 @@ returns-2 c = search needs
 sub-patience : tie.Need-sub-patience Inv-loop μ-loop
 sub-patience c = search needs
 
-add-done : tie.Need-add-done Inv-loop μ-loop
-add-done c = search needs
+add-taken : tie.Need-add-taken Inv-loop μ-loop
+add-taken c = search needs
 
 loop-less : tie.Need-loop-less Inv-loop μ-loop
 loop-less c = ⊎-elim (λ w. omega arith) (λ w. omega arith) (c .if1 .came)
@@ -84,7 +84,7 @@ write-text-spec =
     interrupted-requires
     returns-2
     sub-patience
-    add-done
+    add-taken
     loop-less
     loop-again
     returns-3)

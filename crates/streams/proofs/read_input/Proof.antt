@@ -5,8 +5,8 @@ use Prim.Native.Nat.{ℕ, _+_, _-_, _≤_, _<_}
 use native.Mathlib.Omega.{arith}
 use borrow.Author.Needs.{needs}
 use lib.ListN.{length}
-use Rattle.lookup.proofs.read_input.Statement.{statement}
-use Rattle.lookup.proofs.read_input.Tie as tie
+use Rattle.streams.proofs.read_input.Statement.{statement}
+use Rattle.streams.proofs.read_input.Tie as tie
 
 abbrev Inv-loop : tie.InvT-loop
 Inv-loop space₀ done₀ patience₀ space done patience = (length space ≡ length space₀) × (done ≤ length space₀)
