@@ -6,3 +6,4 @@ pub mod First
 pub mod Laws
 pub mod Names
 mod Cases
+pub mod Room

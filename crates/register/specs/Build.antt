@@ -3,7 +3,7 @@
 -- Assumes nothing.
 use mathlib.Core.Bool.{Bool, cond, not}
 use mathlib.Core.List.{List, [], _∷_, _++_, map}
-use Prim.Native.Nat.{ℕ, _+_, _-_}
+use Prim.Native.Nat.{ℕ, _+_, _-_, _*_}
 use lib.ListN.{length, getD, take, replicate}
 use lib.Dec.{eqb, leb, ltb}
 use Rattle.laws.specs.Cases.{Case, case, firstCase}
@@ -11,7 +11,8 @@ use Rattle.names.specs.Names.{nameCases}
 use Rattle.names.specs.Features.{featuresOf}
 use Rattle.fields.specs.Layouts.{isFrame, fieldsIn, nameIn}
 use Rattle.frames.specs.Frames.{nameFrame}
-use Rattle.index.specs.Good.{mostNames}
+use Rattle.words.specs.Words.{headWidth, nameWidth, rowWidth}
+use Rattle.index.specs.Good.{mostNames, mostPostings}
 use Rattle.index_writer.specs.Built.{Entry, wordsOf}
 use Rattle.index_writer.specs.Written.{blank, fitsIn, padTo}
 use Rattle.lines.specs.Lines.{linesOf, nthLine}
@@ -78,6 +79,10 @@ abbrev pub entriesOf : List ℕ → List Entry
 entriesOf register = takenOf register .entries
 
 -- ---- the whole
+
+-- how many words are room for the index of every register: as many names and postings as there can be, and a row for each posting
+abbrev pub mostWords : ℕ
+mostWords = headWidth + nameWidth * mostNames + (rowWidth + 1) * mostPostings
 
 -- whether the index of the names fits the room
 abbrev pub roomFor : List Entry → ℕ → Bool

@@ -13,6 +13,11 @@ ghost use Rattle.index_writer.specs.Keys.{placeSpan};
 ghost use Rattle.register.specs.Build.{builtOf, wordsAfter};
 ghost use Rattle.register.specs.Steps.{Heard, Read};
 
+// How many words are room for the index of every register.
+pub const MOST_WORDS: usize = words::HEAD_WIDTH
+    + words::NAME_WIDTH * index::MOST_NAMES
+    + (words::ROW_WIDTH + 1) * index::MOST_POSTINGS;
+
 // What a build answers: its number, and the place of the first bad line, from 1, or 0.
 pub struct Built {
     pub number: u8,

@@ -12,6 +12,7 @@ use Rattle.index.specs.Good.{goodOf}
 use Rattle.index_writer.specs.Built.{Entry, wordsOf}
 use Rattle.lines.specs.Lines.{linesOf, nthLine}
 use Rattle.register.specs.Build.{nameOf, wordsAfter}
+use Rattle.register.proofs.Room.{room-enough}
 use Rattle.register.proofs.Laws.{accepted-good, refused-words, refused-bad}
 use Rattle.register.proofs.First.{first-bad-built, none-bad, none-bad-over, none-bad-fits}
 use Rattle.register.proofs.Names.{accepted-name, accepted-count, accepted-id, accepted-size, accepted-features}
@@ -53,6 +54,7 @@ builds register words =
       room = λ g h.
           let t = none-bad register g in
           none-bad-fits register (length words) (t .0) (subst (λ (l : List Entry). length (wordsOf l) ≤ length words) (sym (t .1)) h);
+      enough = room-enough register (length words);
       good = accepted-good register words;
       holds = λ k.
           record {

@@ -35,7 +35,7 @@ use Rattle.frames.specs.declared.RowRead.the-variants.{Row}
 use Rattle.frames.specs.declared.EndRead.the-variants.{End}
 use Rattle.frames.specs.declared.RefusalRead.the-variants.{Refusal}
 use Rattle.lines.specs.Lines.{linesOf, nthLine}
-use Rattle.register.specs.Build.{idIn, nameOf, entryOf, judgeNth, builtOf, wordsAfter}
+use Rattle.register.specs.Build.{idIn, nameOf, entryOf, judgeNth, mostWords, builtOf, wordsAfter}
 use Rattle.candidates.specs.Method.{signatures, signaturePostings}
 use Rattle.sizes.specs.Method.{namesOf, listsFor, remaining, touchesOfSize, touchesOf, answersOf}
 use Rattle.search.specs.Answers.{numberIn, rowsIn, touchesIn, thresholdP, thresholdQ, refusalCases, searchOf, givenBy, Columns, roomOf, columnsOf, columnsOver}
@@ -391,6 +391,8 @@ pub record Building (register words : List ℕ) : Type 0 where
       → builtOf register (length words) ≡ record { number = 8; line = 0 }
   pub room : ((j : ℕ) → j < length (linesOf register) → judgeNth register j ≡ 0) → length (wordsOf (map entryOf (linesOf register))) ≤ length words
       → builtOf register (length words) ≡ record { number = 0; line = 0 }
+  -- so many words are room for every register
+  pub enough : mostWords ≤ length words → builtOf register (length words) .number ≡ 8 → ⊥
   -- accepted words are a good index, and hold the names of the lines
   pub good : Accepted register words → Good (wordsAfter register words)
   pub holds : Accepted register words → Holds (wordsAfter register words) (ofRegister register)
