@@ -1,4 +1,5 @@
-/* The proved lookup beside an unverified twin in Rust, SimString and Rust's sort, in one run. bench/run builds and calls it.
+/* The proved lookup and import beside an unverified twin in Rust, SimString and Rust's sort, in one run. bench/run builds
+ * and calls it.
  *
  *     measure DIRECTORY    a directory for SimString's files
  *
@@ -40,6 +41,9 @@ void simstring_drop(void *);
 #endif
 
 enum { NAMES = 256, LONGEST = 64, QUERIES = 32, WORDS = RUSHGIRDLE_MOST_WORDS, POSTINGS = 16896, COPIES = 16 };
+
+/* A log: as many lines as one may have, of ten weeks. */
+enum { LINES = RUSHGIRDLE_MOST_LINES, WEEKS = 10 };
 
 static _Noreturn void fail(const char *format, ...)
 {
@@ -128,11 +132,12 @@ static void mistype(char *name)
     }
 }
 
-/* ---- a scene: a register, its index, and queries */
+/* ---- a scene: a register, its index, and queries, or a log */
 
 struct query {
     char name[LONGEST + 1];
     size_t length;
+    uint16_t day, reading; /* where it is the typed name of a log line */
 };
 
 struct scene {
@@ -141,20 +146,24 @@ struct scene {
     uint16_t p, q;
     size_t names, queries;
     char name[NAMES][LONGEST + 1];
-    struct query query[QUERIES];
+    struct query query[LINES];
     uint8_t lines[NAMES * (9 + 2 * LONGEST)];
     size_t bytes;
+    uint8_t log[LINES * (13 + 2 * LONGEST)];
+    size_t logged; /* its bytes; 0 where the scene has no log */
     uint32_t words[WORDS];
     size_t total;
     uint64_t triples[POSTINGS];
     size_t postings;
     void *simstring;
-    uint64_t rows, lost, touches;
+    uint64_t rows, lost, touches, belong, pairs;
 };
 
-/* Where searches and builds write. */
+/* Where searches, builds and imports write. */
 static uint32_t ids[NAMES], shared[NAMES], sizes[NAMES], built[WORDS];
 static uint64_t copies[COPIES][POSTINGS];
+enum { CASE, VALUE, ID, WEEK, SUM, COUNT, COLUMNS };
+static uint32_t imported[COLUMNS][LINES];
 
 static const char *directory;
 
@@ -199,6 +208,30 @@ static void ready(struct scene *s)
     if (!(s->simstring = simstring_make(path, names, s->names)))
         fail("%s: SimString makes no database in %s", s->label, directory);
 #endif
+}
+
+static void finish(struct scene *s)
+{
+#ifdef SIMSTRING
+    simstring_drop(s->simstring);
+#endif
+    s->simstring = NULL;
+}
+
+/* Gives each query a day and a reading, one in eight of these missing, and writes the lines of the log. */
+static void write_log(struct scene *s)
+{
+    char *to = (char *)s->log;
+    for (size_t at = 0; at < s->queries; at++) {
+        struct query *q = &s->query[at];
+        q->day = (uint16_t)below(7 * WEEKS);
+        q->reading = (uint16_t)(below(8) ? below(400) : RUSHGIRDLE_MISSING);
+        to += sprintf(to, "4C%04X%04X%02X", q->day, q->reading, (unsigned)q->length);
+        for (const char *from = q->name; *from; from++)
+            to += sprintf(to, "%02X", (unsigned char)*from);
+        *to++ = '\n';
+    }
+    s->logged = (size_t)(to - (char *)s->log);
 }
 
 /* ---- the contenders, each over all queries of a scene once; what they found is added up */
@@ -281,6 +314,19 @@ static uint64_t twin_builds(struct scene *s)
     return twin_build(s->lines, s->bytes, built, s->total).number == 0;
 }
 
+static rushgirdle_import_answer import_log(struct scene *s, uint32_t allowance)
+{
+    uint32_t(*c)[LINES] = imported;
+    return rushgirdle_import(s->log, s->logged, s->measure, s->p, s->q, allowance, s->words, s->total, c[CASE], LINES,
+                             c[VALUE], LINES, c[ID], LINES, c[WEEK], LINES, c[SUM], LINES, c[COUNT], LINES);
+}
+
+static uint64_t proved_import(struct scene *s)
+{
+    rushgirdle_import_answer answer = import_log(s, UINT32_MAX);
+    return answer.lines + answer.pairs;
+}
+
 /* Sorts copies that were made before the clock started. */
 static uint64_t rust_sort(struct scene *s)
 {
@@ -353,6 +399,59 @@ static void compare(struct scene *s)
     }
 }
 
+/* Every outcome has to be what search_good lists for that typed name, and every pair a sum over the lines; what stands
+ * behind them is kept. */
+static void compare_import(struct scene *s, uint32_t allowance)
+{
+    static uint32_t expected[COLUMNS][LINES];
+    static struct {
+        uint32_t lines, sum, count;
+    } pair[NAMES][WEEKS];
+    memset(imported, 0xA5, sizeof imported);
+    memset(expected, 0xA5, sizeof expected);
+    memset(pair, 0, sizeof pair);
+    rushgirdle_import_answer answer = import_log(s, allowance);
+    s->belong = s->pairs = 0;
+    for (size_t at = 0; at < s->queries; at++) {
+        const struct query *q = &s->query[at];
+        rushgirdle_search_answer found =
+            measured_search_good((const uint8_t *)q->name, q->length, s->measure, s->p, s->q, allowance, s->words,
+                                 s->total, ids, NAMES, shared, NAMES, sizes, NAMES);
+        bool belongs = !found.number && found.rows == 1;
+        expected[CASE][at] = found.number ? RUSHGIRDLE_REFUSED
+                             : belongs    ? RUSHGIRDLE_BELONGS
+                             : found.rows ? RUSHGIRDLE_AMBIGUOUS
+                                          : RUSHGIRDLE_UNRESOLVED;
+        expected[VALUE][at] = found.number ? found.number : belongs ? ids[0] : 0;
+        if (!belongs)
+            continue;
+        s->belong++;
+        size_t name = (ids[0] - 7) / 251, week = q->day / 7;
+        pair[name][week].lines++;
+        if (q->reading != RUSHGIRDLE_MISSING) {
+            pair[name][week].sum += q->reading;
+            pair[name][week].count++;
+        }
+    }
+    for (uint32_t name = 0; name < s->names; name++)
+        for (uint32_t week = 0; week < WEEKS; week++)
+            if (pair[name][week].lines) {
+                expected[ID][s->pairs] = name * 251 + 7;
+                expected[WEEK][s->pairs] = week;
+                expected[SUM][s->pairs] = pair[name][week].sum;
+                expected[COUNT][s->pairs] = pair[name][week].count;
+                s->pairs++;
+            }
+    if (answer.number || answer.line || answer.lines != s->queries || answer.pairs != s->pairs)
+        fail("%s: the import answers %u at line %u, %u lines, %u pairs", s->label, answer.number, answer.line,
+             answer.lines, answer.pairs);
+    for (int c = 0; c < COLUMNS; c++)
+        for (size_t at = 0; at < LINES; at++)
+            if (imported[c][at] != expected[c][at])
+                fail("%s: the import has %u and not %u at place %zu of column %d", s->label, imported[c][at],
+                     expected[c][at], at, c);
+}
+
 /* ---- times: of this thread alone, so that a wait for the processor is not counted */
 
 static double now(void)
@@ -398,7 +497,15 @@ static void sample(struct timed *t, struct scene *s)
     }
 }
 
-enum { GOOD, TWIN_GOOD, SIM, SEARCH, TWIN_SEARCH, CHECK, TWIN_CHECK, BUILD, TWIN_BUILD, SORT, CONTENDERS };
+enum { GOOD, TWIN_GOOD, SIM, SEARCH, TWIN_SEARCH, CHECK, TWIN_CHECK, BUILD, TWIN_BUILD, SORT, IMPORT, CONTENDERS };
+
+/* In a scene with a log the import takes turns with search_good and SimString; elsewhere all but the import do. */
+static bool takes_part(int which, const struct scene *s)
+{
+    if (which == SIM)
+        return s->simstring;
+    return which == GOOD || (which == IMPORT) == (s->logged > 0);
+}
 
 static void take_times(struct scene *s, double *seconds, unsigned rounds)
 {
@@ -413,10 +520,11 @@ static void take_times(struct scene *s, double *seconds, unsigned rounds)
         [BUILD] = { proved_build, 1, 1, false, 1, 1e9 },
         [TWIN_BUILD] = { twin_builds, 1, 1, false, 1, 1e9 },
         [SORT] = { rust_sort, 1, 1, true, 1, 1e9 },
+        [IMPORT] = { proved_import, s->queries, s->queries + s->pairs, false, 1, 1e9 },
     };
     for (unsigned round = 0; round < rounds; round++)
         for (int k = 0; k < CONTENDERS; k++)
-            if (k != SIM || s->simstring)
+            if (takes_part(k, s))
                 sample(&t[k], s);
     for (int k = 0; k < CONTENDERS; k++)
         seconds[k] = t[k].least;
@@ -424,26 +532,28 @@ static void take_times(struct scene *s, double *seconds, unsigned rounds)
 
 /* ---- what is printed */
 
+/* How the labels of the rows begin that the goals are for. */
+static const char pool_rows[] = "256 pool names", log_rows[] = "1,024 lines";
+
 static struct {
-    const char *what;
+    const char *what, *rows;
     int over, under;
     double goal, worst;
     char at[64];
 } goals[] = {
-    { "search_good / SimString", GOOD, SIM, 0.7, 0, "" },
-    { "search_good / twin", GOOD, TWIN_GOOD, 1.1, 0, "" },
-    { "search / twin's check and search", SEARCH, TWIN_SEARCH, 1.2, 0, "" },
-    { "build / sort_unstable", BUILD, SORT, 3.0, 0, "" },
+    { "search_good / SimString", pool_rows, GOOD, SIM, 0.7, 0, "" },
+    { "search_good / twin", pool_rows, GOOD, TWIN_GOOD, 1.1, 0, "" },
+    { "search / twin's check and search", pool_rows, SEARCH, TWIN_SEARCH, 1.2, 0, "" },
+    { "build / sort_unstable", pool_rows, BUILD, SORT, 3.0, 0, "" },
+    { "a line of an import / search_good", log_rows, IMPORT, GOOD, 1.2, 0, "" },
+    { "a line of an import / SimString", log_rows, IMPORT, SIM, 1.0, 0, "" },
 };
-
-/* How the labels of the rows begin that the goals are for. */
-static const char goal_rows[] = "256 pool names";
 
 static void note(const struct scene *s, const double *seconds)
 {
     for (size_t g = 0; g < sizeof goals / sizeof *goals; g++) {
         double ratio = seconds[goals[g].over] / seconds[goals[g].under];
-        if ((goals[g].under == SIM && !s->simstring) || strncmp(s->label, goal_rows, strlen(goal_rows)) != 0)
+        if ((goals[g].under == SIM && !s->simstring) || strncmp(s->label, goals[g].rows, strlen(goals[g].rows)) != 0)
             continue;
         if (ratio > goals[g].worst) {
             goals[g].worst = ratio;
@@ -468,10 +578,27 @@ static void measure(struct scene *s, unsigned rounds)
            t[SEARCH] / t[TWIN_SEARCH], t[CHECK] / t[TWIN_CHECK], t[BUILD] * 1e6, t[BUILD] / t[SORT],
            t[BUILD] / t[TWIN_BUILD]);
     fflush(stdout);
-#ifdef SIMSTRING
-    simstring_drop(s->simstring);
-    s->simstring = NULL;
-#endif
+    finish(s);
+}
+
+/* A log: compared with the whole allowance, and with one that refuses some of its lines. */
+static void measure_import(struct scene *s, unsigned rounds)
+{
+    double t[CONTENDERS];
+    ready(s);
+    compare(s);
+    compare_import(s, (uint32_t)(s->touches / s->queries));
+    compare_import(s, UINT32_MAX);
+    take_times(s, t, rounds);
+    note(s, t);
+    printf("| %s | %.0f | %.0f | %.0f | %.2f | %.2f | %.2f | ", s->label, (double)s->touches / (double)s->queries,
+           (double)s->belong, (double)s->pairs, t[IMPORT] * 1e6, t[GOOD] * 1e6, t[IMPORT] / t[GOOD]);
+    if (s->simstring)
+        printf("%.2f | %.2f |\n", t[SIM] * 1e6, t[IMPORT] / t[SIM]);
+    else
+        printf("- | - |\n");
+    fflush(stdout);
+    finish(s);
 }
 
 static void head(void)
@@ -496,10 +623,17 @@ static struct scene *begin(uint8_t measure, uint16_t p, uint16_t q, const char *
     return &scene;
 }
 
-static void mistyped_queries(struct scene *s)
+static void register_pools(struct scene *s)
+{
+    state = 1;
+    for (s->names = 0; s->names < NAMES; s->names++)
+        pool_name(s->name[s->names]);
+}
+
+static void mistyped_queries(struct scene *s, size_t count)
 {
     char name[LONGEST + 1];
-    while (s->queries < QUERIES) {
+    while (s->queries < count) {
         strcpy(name, s->name[below(s->names)]);
         mistype(name);
         ask(s, name);
@@ -511,11 +645,18 @@ static const char *const measures[] = { "", "Dice", "Jaccard", "cosine", "overla
 static void pools(uint8_t measure_by, uint16_t p, uint16_t q, unsigned rounds)
 {
     struct scene *s = begin(measure_by, p, q, "256 pool names, %s %u/%u", measures[measure_by], p, q);
-    state = 1;
-    for (s->names = 0; s->names < NAMES; s->names++)
-        pool_name(s->name[s->names]);
-    mistyped_queries(s);
+    register_pools(s);
+    mistyped_queries(s, QUERIES);
     measure(s, rounds);
+}
+
+static void log_of_pools(uint8_t measure_by, uint16_t p, uint16_t q, unsigned rounds)
+{
+    struct scene *s = begin(measure_by, p, q, "1,024 lines, %s %u/%u", measures[measure_by], p, q);
+    register_pools(s);
+    mistyped_queries(s, LINES);
+    write_log(s);
+    measure_import(s, rounds);
 }
 
 static void worst(uint16_t p, uint16_t q, unsigned rounds)
@@ -535,7 +676,7 @@ static void grown(size_t names, size_t length, unsigned rounds)
     state = 1;
     for (s->names = 0; s->names < names; s->names++)
         long_name(s->name[s->names], length);
-    mistyped_queries(s);
+    mistyped_queries(s, QUERIES);
     measure(s, rounds);
 }
 
@@ -552,9 +693,7 @@ static void on_threshold(const char *name, const char *query, uint16_t p, uint16
         puts(s->lost ? "not listed |" : "listed |");
     else
         puts("- |");
-#ifdef SIMSTRING
-    simstring_drop(s->simstring);
-#endif
+    finish(s);
 }
 
 int main(int count, char **given)
@@ -575,7 +714,13 @@ int main(int count, char **given)
     for (size_t names = 16; names <= 256; names *= 4)
         for (size_t length = 8; length <= 64; length = length == 16 ? 64 : 2 * length)
             grown(names, length, rounds);
-    puts("\nThe goals, by the largest ratio of the rows of 256 pool names:\n");
+    puts("\nA log of mistyped names of 256 pools, imported:\n");
+    puts("| log | touches | lines that belong | pairs | a line of an import, µs | search_good, µs | import / search_good |"
+         " SimString, µs | import / SimString |");
+    puts("|---|---|---|---|---|---|---|---|---|");
+    for (uint8_t by = 1; by <= 4; by++)
+        log_of_pools(by, 7, 10, rounds);
+    puts("\nThe goals, by the largest ratio of the rows of 256 pool names, and for the import of the rows of a log:\n");
     puts("| ratio | goal | largest | at | |\n|---|---|---|---|---|");
     for (size_t g = 0; g < sizeof goals / sizeof *goals; g++)
         if (goals[g].worst == 0)

@@ -16,9 +16,9 @@
  * What is promised
  *   - The number, every field, and every lent element afterwards are fixed by the rule. Nothing but the lent elements is written.
  *   - What an answer tells a caller to read lies within what was lent: start + count is at most the number of words, rows at most the length of
- *     each column or of the list of rows, len at most the length of the buffer.
- *   - A refused search writes no row, a refused read no byte of the name, a refused write no byte of the line. A refused build sets every word
- *     to 4294967295.
+ *     each column or of the list of rows, lines and pairs at most the length of each column of theirs, len at most the length of the buffer.
+ *   - A refused search writes no row, a refused import no outcome and no pair, a refused read no byte of the name, a refused write no byte of the
+ *     line. A refused build sets every word to 4294967295.
  *   - No memory is taken, no pointer is kept, nothing is remembered from call to call: any number of threads may call at once.
  */
 #ifndef RUSHGIRDLE_H
@@ -42,9 +42,10 @@ enum rushgirdle_number {
     RUSHGIRDLE_THRESHOLD = 5,  /* not 1 <= p <= q <= 1000 */
     RUSHGIRDLE_NOT_GOOD = 6,   /* the words are no good index */
     RUSHGIRDLE_ALLOWANCE = 7,  /* the touches needed exceed the allowance */
-    RUSHGIRDLE_ROOM = 8,       /* search: more answers than rows lent; build: the index exceeds the words; frames: the line or the name exceeds its buffer */
+    RUSHGIRDLE_ROOM = 8,       /* search: more answers than rows lent; build: the index exceeds the words; frames: the line or the name exceeds its buffer;
+                                * import: more lines than places for outcomes, or more pairs than places for pairs */
     RUSHGIRDLE_ORDER = 9,      /* a register id is not above the one before */
-    RUSHGIRDLE_FULL = 10,      /* a 257th name */
+    RUSHGIRDLE_FULL = 10,      /* build: a 257th name; import: a 1025th line */
     RUSHGIRDLE_MALFORMED = 11, /* not a frame of the kind that was asked for */
     RUSHGIRDLE_CONTROL = 12    /* the name or query holds a control character other than 0: a byte from 1 to 31, or 127 */
 };
@@ -57,17 +58,28 @@ enum rushgirdle_measure {
     RUSHGIRDLE_OVERLAP = 4
 };
 
+/* The cases of an outcome of an import. */
+enum rushgirdle_case {
+    RUSHGIRDLE_BELONGS = 1,    /* the search of the line lists one name; the value is its id */
+    RUSHGIRDLE_UNRESOLVED = 2, /* it lists none; the value is 0 */
+    RUSHGIRDLE_AMBIGUOUS = 3,  /* it lists several; the value is 0 */
+    RUSHGIRDLE_REFUSED = 4     /* it is refused; the value is its number */
+};
+
 #define RUSHGIRDLE_MOST_NAMES 256    /* so many rows are enough for every search */
 #define RUSHGIRDLE_MOST_WORDS 84739  /* so many words are enough for every register: 3 + 256 + 4 * 16896 + 16896 */
 #define RUSHGIRDLE_LONGEST_NAME 255  /* so many bytes are enough for every name or query that is read from a line */
 #define RUSHGIRDLE_LONGEST_LINE 533  /* so many bytes are enough for every line that is written, its line feed included */
+#define RUSHGIRDLE_MOST_LINES 1024   /* so many places are enough for the outcomes of every log, and for its pairs */
+#define RUSHGIRDLE_MISSING 65535     /* the reading that says that there is none; 0 is a reading */
 
 /* The bytes of stack that a call takes below its caller's own, the return address among them. A loader that looks for memcpy and memset at their
  * first call takes its own besides. */
 #define RUSHGIRDLE_STACK_BUILD 280000  /* rushgirdle_build */
 #define RUSHGIRDLE_STACK_INDEX 6000    /* rushgirdle_good, rushgirdle_list */
-#define RUSHGIRDLE_STACK_SEARCH 15000  /* rushgirdle_search */
+#define RUSHGIRDLE_STACK_SEARCH 12000  /* rushgirdle_search */
 #define RUSHGIRDLE_STACK_ROWS 18000    /* rushgirdle_search_rows */
+#define RUSHGIRDLE_STACK_IMPORT 42000  /* rushgirdle_import */
 #define RUSHGIRDLE_STACK_FRAMES 256    /* each function that reads or writes a frame */
 
 /* ---- the index */
@@ -131,6 +143,38 @@ rushgirdle_search_answer rushgirdle_search_rows(
     const uint32_t *words, size_t words_length,
     rushgirdle_row *rows, size_t rows_length);
 
+/* ---- the import of a log */
+
+typedef struct {
+    uint8_t number;  /* 0, or for the first bad line 10 where it is the 1025th, which is not read, and 11 where it is no 4C frame, then for the whole 8 */
+    uint32_t line;   /* the bad line, counted from 1; 0 after 0 and after 8 */
+    uint32_t lines;  /* how many outcomes were written, one a line; 0 where refused */
+    uint32_t pairs;  /* how many pairs were written; 0 where refused */
+} rushgirdle_import_answer;
+
+/* Which registered name each line of a log belongs to, and the readings by id and week. A log is the bytes of 4C lines, at most 1024 of them. The
+ * typed name of each is searched by the measure and the threshold p/q, within the whole allowance, with room for every row.
+ *
+ * Outcome k is cases[k], one of enum rushgirdle_case, and values[k]: that of line k, counted from 0. A bad measure, threshold or index refuses
+ * each line, with the number that its own search gives, and not the whole.
+ *
+ * Pair k is ids[k], weeks[k], sums[k], counts[k]: an id, a week (a day divided by 7, rounded down), and the sum and the count of the readings of the
+ * lines that belong to the id in that week; by ascending id and then week, once each. A missing reading adds to neither sum nor count. Where
+ * every reading is missing the pair is there with count 0: a count of 0 means no reading, whatever the sum.
+ *
+ * The places lent are as many as the shorter of cases and values has for outcomes, and as the shortest of the other four has for pairs; those
+ * beyond what is written keep their contents, all of them where the import is refused. Checks the index each time. */
+rushgirdle_import_answer rushgirdle_import(
+    const uint8_t *log, size_t log_length,
+    uint8_t measure, uint16_t p, uint16_t q, uint32_t allowance,
+    const uint32_t *words, size_t words_length,
+    uint32_t *cases, size_t cases_length,
+    uint32_t *values, size_t values_length,
+    uint32_t *ids, size_t ids_length,
+    uint32_t *weeks, size_t weeks_length,
+    uint32_t *sums, size_t sums_length,
+    uint32_t *counts, size_t counts_length);
+
 /* ---- frames: reading
  *
  * A line has to be exactly one frame of its kind: upper-case hexadecimal pairs and one line feed, which is part of the line. Otherwise 11; then
@@ -192,6 +236,18 @@ typedef struct {
 /* 58: a refusal */
 rushgirdle_refusal_answer rushgirdle_read_refusal(const uint8_t *line, size_t line_length);
 
+typedef struct {
+    uint8_t number;
+    uint16_t day;
+    uint16_t reading;  /* in hundredths of a milligram per litre; RUSHGIRDLE_MISSING where there is none */
+    size_t len;        /* the bytes of the typed name, 0 to 255 */
+} rushgirdle_log_answer;
+
+/* 4C: a line of a log */
+rushgirdle_log_answer rushgirdle_read_log(
+    const uint8_t *line, size_t line_length,
+    uint8_t *name, size_t name_length);
+
 /* ---- frames: writing
  *
  * Writes the line, its line feed included, at the start of out; the bytes after it keep their contents. The fields are written as given. 2
@@ -221,6 +277,10 @@ rushgirdle_write_answer rushgirdle_write_end(
 rushgirdle_write_answer rushgirdle_write_refusal(
     uint8_t *out, size_t out_length,
     uint8_t number, uint32_t touches);
+
+rushgirdle_write_answer rushgirdle_write_log(
+    uint8_t *out, size_t out_length,
+    uint16_t day, uint16_t reading, const uint8_t *name, size_t name_length);
 
 #ifdef __cplusplus
 }

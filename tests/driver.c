@@ -1,8 +1,8 @@
 /* The proved library behind the second program's protocols (second/README.md): one case a line in, one line out.
  *
- *     driver good|list|build|search|rows|frames
+ *     driver good|list|build|search|rows|import|frames
  *
- * `rows` is the protocol `search`, with the rows lent as records.
+ * `rows` is the protocol `search`, with the rows lent as records. Of an import's frames `frames` has the log line, 4C.
  *
  * What is lent stands between two guards and is filled before the call; what is only read is compared with a copy
  * after it. A touched guard or a changed input ends the program with status 3, a line that does not follow its
@@ -307,6 +307,49 @@ static void rows(void)
         drop(lent[i]);
 }
 
+/* An outcome as its protocol shows it: two numbers that are none are shown as they are. */
+static void print_outcome(uint32_t given, uint32_t value)
+{
+    if (given == RUSHGIRDLE_BELONGS)
+        printf(" b%u", value);
+    else if (given == RUSHGIRDLE_UNRESOLVED && value == 0)
+        printf(" u");
+    else if (given == RUSHGIRDLE_AMBIGUOUS && value == 0)
+        printf(" a");
+    else if (given == RUSHGIRDLE_REFUSED)
+        printf(" r%u", value);
+    else
+        printf(" %u:%u", given, value);
+}
+
+static void import(void)
+{
+    uint8_t measure = (uint8_t)number("measure", UINT8_MAX);
+    uint16_t p = (uint16_t)number("p", UINT16_MAX), q = (uint16_t)number("q", UINT16_MAX);
+    uint32_t allowance = (uint32_t)number("allowance", UINT32_MAX);
+    size_t lines = (size_t)number("lines", SIZE_MAX / 16), pairs = (size_t)number("pairs", SIZE_MAX / 16);
+    struct slice log = bytes("log"), index = words();
+    end();
+    struct slice cases = column(lines), values = column(lines);
+    struct slice ids = column(pairs), weeks = column(pairs), sums = column(pairs), counts = column(pairs);
+    rushgirdle_import_answer a =
+        rushgirdle_import(part(&log), log.bytes, measure, p, q, allowance, part(&index), index.bytes / 4,
+                          part(&cases), lines, part(&values), lines, part(&ids), pairs, part(&weeks), pairs,
+                          part(&sums), pairs, part(&counts), pairs);
+    struct slice *lent[] = { &log, &index, &cases, &values, &ids, &weeks, &sums, &counts };
+    for (size_t i = 0; i < sizeof lent / sizeof *lent; i++)
+        check_slice(lent[i]);
+    printf("%u %u %u %u", (unsigned)a.number, (unsigned)a.line, (unsigned)a.lines, (unsigned)a.pairs);
+    for (size_t i = 0; i < lines; i++)
+        print_outcome(((uint32_t *)part(&cases))[i], ((uint32_t *)part(&values))[i]);
+    for (size_t i = 0; i < pairs; i++)
+        printf(" %u:%u:%u:%u", ((uint32_t *)part(&ids))[i], ((uint32_t *)part(&weeks))[i],
+               ((uint32_t *)part(&sums))[i], ((uint32_t *)part(&counts))[i]);
+    putchar('\n');
+    for (size_t i = 0; i < sizeof lent / sizeof *lent; i++)
+        drop(lent[i]);
+}
+
 static void read_frame(unsigned kind, struct slice *buffer)
 {
     struct slice line = bytes("line");
@@ -338,6 +381,11 @@ static void read_frame(unsigned kind, struct slice *buffer)
     case 0x58: {
         rushgirdle_refusal_answer a = rushgirdle_read_refusal(at, length);
         printf("%u %u %u", (unsigned)a.number, (unsigned)a.refusal, (unsigned)a.touches);
+        break;
+    }
+    case 0x4C: {
+        rushgirdle_log_answer a = rushgirdle_read_log(at, length, part(buffer), buffer->bytes);
+        printf("%u %u %u %zu", (unsigned)a.number, (unsigned)a.day, (unsigned)a.reading, (size_t)a.len);
         break;
     }
     default:
@@ -389,6 +437,13 @@ static void write_frame(unsigned kind, struct slice *buffer)
         a = rushgirdle_write_refusal(out, room, refusal, touches);
         break;
     }
+    case 0x4C: {
+        uint16_t day = (uint16_t)number("day", UINT16_MAX), reading = (uint16_t)number("reading", UINT16_MAX);
+        drop(&name);
+        name = bytes("name");
+        a = rushgirdle_write_log(out, room, day, reading, part(&name), name.bytes);
+        break;
+    }
     default:
         refuse("no such kind");
     }
@@ -435,7 +490,7 @@ int main(int count, char **given)
 {
     static const struct { const char *name; void (*answer)(void); } kinds[] = {
         { "good", good }, { "list", list }, { "build", build }, { "search", search }, { "rows", rows },
-        { "frames", frames },
+        { "import", import }, { "frames", frames },
     };
     for (size_t k = 0; count == 2 && k < sizeof kinds / sizeof *kinds; k++) {
         if (strcmp(given[1], kinds[k].name))
@@ -454,6 +509,6 @@ int main(int count, char **given)
         free(text);
         return fflush(stdout) ? 4 : 0;
     }
-    fputs("usage: driver good|list|build|search|rows|frames\n", stderr);
+    fputs("usage: driver good|list|build|search|rows|import|frames\n", stderr);
     return 2;
 }

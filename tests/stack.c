@@ -60,15 +60,18 @@ static size_t need(void (*call)(void), any *function)
     return most;
 }
 
-/* ---- the inputs: 256 names of 64 bytes, and what is largest of a line */
+/* ---- the inputs: 256 names of 64 bytes, logs of these names, and what is largest of a line */
 
 #define NAME 64
-static char lines[RUSHGIRDLE_MOST_NAMES * 137 + 1];
-static size_t lines_length;
+#define LINE 137 /* a 4E line of such a name; a 4C line has 4 bytes more */
+static char lines[RUSHGIRDLE_MOST_NAMES * LINE + 1], logged[RUSHGIRDLE_MOST_LINES * (LINE + 4) + 1];
+static size_t lines_length, logged_length;
 static uint8_t query[NAME];
 static uint32_t words[RUSHGIRDLE_MOST_WORDS], built[RUSHGIRDLE_MOST_WORDS];
 static uint32_t ids[RUSHGIRDLE_MOST_NAMES], shared[RUSHGIRDLE_MOST_NAMES], sizes[RUSHGIRDLE_MOST_NAMES];
 static rushgirdle_row rows[RUSHGIRDLE_MOST_NAMES];
+static uint32_t cases[RUSHGIRDLE_MOST_LINES], values[RUSHGIRDLE_MOST_LINES];
+static uint32_t pair_ids[RUSHGIRDLE_MOST_LINES], weeks[RUSHGIRDLE_MOST_LINES], sums[RUSHGIRDLE_MOST_LINES], counts[RUSHGIRDLE_MOST_LINES];
 static uint8_t name[RUSHGIRDLE_LONGEST_NAME], line[RUSHGIRDLE_LONGEST_LINE];
 static size_t line_length;
 static uint8_t measure;
@@ -83,7 +86,16 @@ static void wanted(int held, const char *otherwise)
     }
 }
 
-/* Names that have every feature in common, or none but a few. */
+/* A log with so many lines, each of a registered name: the last name first, and the later weeks before the earlier. */
+static void log_of(unsigned count)
+{
+    logged_length = 0;
+    for (unsigned i = count; i-- > 0;)
+        logged_length += (size_t)sprintf(logged + logged_length, "4C%04X%04X%02X%.*s\n", 7 * (i / RUSHGIRDLE_MOST_NAMES), i, NAME,
+                                         2 * NAME, lines + i % RUSHGIRDLE_MOST_NAMES * LINE + 8);
+}
+
+/* Names that have every feature in common, or none but a few; and a log of two lines. */
 static void register_of(int equal)
 {
     lines_length = 0;
@@ -98,6 +110,7 @@ static void register_of(int equal)
         lines_length += (size_t)sprintf(lines + lines_length, "\n");
     }
     wanted(rushgirdle_build((const uint8_t *)lines, lines_length, words, RUSHGIRDLE_MOST_WORDS).number == 0, "a register is refused");
+    log_of(2);
 }
 
 static void call_build(void) { CALLEE(rushgirdle_build)((const uint8_t *)lines, lines_length, built, RUSHGIRDLE_MOST_WORDS); }
@@ -112,16 +125,24 @@ static void call_search_rows(void)
 {
     CALLEE(rushgirdle_search_rows)(query, NAME, measure, p, q, UINT32_MAX, words, RUSHGIRDLE_MOST_WORDS, rows, RUSHGIRDLE_MOST_NAMES);
 }
+static void call_import(void)
+{
+    CALLEE(rushgirdle_import)((const uint8_t *)logged, logged_length, measure, p, q, UINT32_MAX, words, RUSHGIRDLE_MOST_WORDS,
+                              cases, RUSHGIRDLE_MOST_LINES, values, RUSHGIRDLE_MOST_LINES, pair_ids, RUSHGIRDLE_MOST_LINES,
+                              weeks, RUSHGIRDLE_MOST_LINES, sums, RUSHGIRDLE_MOST_LINES, counts, RUSHGIRDLE_MOST_LINES);
+}
 static void call_read_name(void) { CALLEE(rushgirdle_read_name)(line, line_length, name, sizeof name); }
 static void call_read_query(void) { CALLEE(rushgirdle_read_query)(line, line_length, name, sizeof name); }
 static void call_read_row(void) { CALLEE(rushgirdle_read_row)(line, line_length); }
 static void call_read_end(void) { CALLEE(rushgirdle_read_end)(line, line_length); }
 static void call_read_refusal(void) { CALLEE(rushgirdle_read_refusal)(line, line_length); }
+static void call_read_log(void) { CALLEE(rushgirdle_read_log)(line, line_length, name, sizeof name); }
 static void call_write_name(void) { CALLEE(rushgirdle_write_name)(line, sizeof line, 65535, name, sizeof name); }
 static void call_write_query(void) { CALLEE(rushgirdle_write_query)(line, sizeof line, 4, 610, 987, UINT32_MAX, name, sizeof name); }
 static void call_write_row(void) { CALLEE(rushgirdle_write_row)(line, sizeof line, 65535, 66, 66); }
 static void call_write_end(void) { CALLEE(rushgirdle_write_end)(line, sizeof line, 256, UINT32_MAX, 610, 987); }
 static void call_write_refusal(void) { CALLEE(rushgirdle_write_refusal)(line, sizeof line, 7, UINT32_MAX); }
+static void call_write_log(void) { CALLEE(rushgirdle_write_log)(line, sizeof line, 65535, 65535, name, sizeof name); }
 
 /* ---- the figures */
 
@@ -183,6 +204,16 @@ int main(void)
     SEARCHES(search_rows);
     HOLDS(RUSHGIRDLE_STACK_ROWS);
 
+    /* every search, and then as many pairs as there can be: four weeks of each name */
+    SEARCHES(import);
+    register_of(0);
+    measure = RUSHGIRDLE_DICE;
+    p = q = 1;
+    log_of(RUSHGIRDLE_MOST_LINES);
+    TRY(import);
+    wanted(pair_ids[1023] == 255 && weeks[1023] == 3 && counts[1023] == 1, "an import has too few pairs");
+    HOLDS(RUSHGIRDLE_STACK_IMPORT);
+
     TRY(write_name);
     line_length = rushgirdle_write_name(line, sizeof line, 1, name, sizeof name).len;
     TRY(read_name);
@@ -198,6 +229,9 @@ int main(void)
     TRY(write_refusal);
     line_length = rushgirdle_write_refusal(line, sizeof line, 1, 1).len;
     TRY(read_refusal);
+    TRY(write_log);
+    line_length = rushgirdle_write_log(line, sizeof line, 1, 1, name, sizeof name).len;
+    TRY(read_log);
     HOLDS(RUSHGIRDLE_STACK_FRAMES);
 
     printf("%u passed, %u failed\n", passed, failed);

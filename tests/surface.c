@@ -400,6 +400,211 @@ static void test_rows(void)
     EXPECT(row_is(&all[0], 0, 3, 3) && row_is(&all[255], 510, 3, 3) && all_bytes((const uint8_t *)&all[256], 0, 44 * sizeof *all, 0xA5));
 }
 
+/* ---- the import */
+
+enum { CASES, VALUES, IDS, WEEKS, SUMS, COUNTS, COLUMNS };
+#define PLACES 8
+static uint32_t lent[COLUMNS][PLACES], pools[INDEX];
+static const size_t all_places[COLUMNS] = {PLACES, PLACES, PLACES, PLACES, PLACES, PLACES};
+
+static void fill_lent(void) { memset(lent, 0xA5, sizeof lent); }
+
+/* into the six columns, of these lengths */
+static rushgirdle_import_answer import_into(const size_t *room, const char *log, unsigned measure, unsigned p, unsigned q, uint32_t allowance)
+{
+    fill_lent();
+    return rushgirdle_import((const uint8_t *)log, strlen(log), (uint8_t)measure, (uint16_t)p, (uint16_t)q, allowance, pools, INDEX,
+                             lent[CASES], room[CASES], lent[VALUES], room[VALUES], lent[IDS], room[IDS],
+                             lent[WEEKS], room[WEEKS], lent[SUMS], room[SUMS], lent[COUNTS], room[COUNTS]);
+}
+
+static rushgirdle_import_answer import(const char *log, unsigned measure, unsigned p, unsigned q, uint32_t allowance)
+{
+    return import_into(all_places, log, measure, p, q, allowance);
+}
+
+/* the outcomes, each a case and a value, and nothing after them */
+static int outcomes_are(rushgirdle_import_answer a, uint32_t n, const uint32_t (*outcome)[2])
+{
+    for (uint32_t k = 0; k < n; k++)
+        if (lent[CASES][k] != outcome[k][0] || lent[VALUES][k] != outcome[k][1])
+            return 0;
+    return a.number == 0 && a.line == 0 && a.lines == n && all_words(lent[CASES], n, PLACES, KEPT) && all_words(lent[VALUES], n, PLACES, KEPT);
+}
+
+/* the pairs, each an id, a week, a sum and a count, and nothing after them */
+static int pairs_are(rushgirdle_import_answer a, uint32_t n, const uint32_t (*pair)[4])
+{
+    for (int c = 0; c < 4; c++) {
+        for (uint32_t k = 0; k < n; k++)
+            if (lent[IDS + c][k] != pair[k][c])
+                return 0;
+        if (!all_words(lent[IDS + c], n, PLACES, KEPT))
+            return 0;
+    }
+    return a.number == 0 && a.pairs == n;
+}
+
+static int import_refused(rushgirdle_import_answer a, unsigned number, uint32_t line)
+{
+    return a.number == number && a.line == line && a.lines == 0 && a.pairs == 0 && all_bytes((const uint8_t *)lent, 0, sizeof lent, 0xA5);
+}
+
+/* the six lines of the rule: AB with 45, LANE, ZZ, no name, AB without a reading, and a week after the first AB with 0 */
+static const char six[] =
+    "4C0000002D024142\n4C00000001044C414E45\n4C00000002025A5A\n4C0000000300\n4C0006FFFF024142\n4C00070000024142\n";
+
+/* each of the six refused with this number, the one without a name with 1 still */
+static int each_refused(rushgirdle_import_answer a, uint32_t number)
+{
+    const uint32_t outcomes[6][2] = {{4, number}, {4, number}, {4, number}, {4, 1}, {4, number}, {4, number}};
+    return outcomes_are(a, 6, outcomes) && pairs_are(a, 0, NULL);
+}
+
+static void test_import(void)
+{
+    const char *lines = "4E000A044C414E45\n4E000B054C414E4553\n4E0014024142\n";
+    rushgirdle_build_answer b = rushgirdle_build((const uint8_t *)lines, strlen(lines), pools, INDEX);
+    EXPECT(b.number == 0);
+
+    static const uint32_t outcomes[6][2] = {{RUSHGIRDLE_BELONGS, 20}, {RUSHGIRDLE_AMBIGUOUS, 0}, {RUSHGIRDLE_UNRESOLVED, 0}, {RUSHGIRDLE_REFUSED, 1}, {1, 20}, {1, 20}};
+    static const uint32_t pairs[2][4] = {{20, 0, 45, 1}, {20, 1, 0, 1}};
+    rushgirdle_import_answer a = import(six, RUSHGIRDLE_DICE, 1, 2, 1000);
+    EXPECT(outcomes_are(a, 6, outcomes) && pairs_are(a, 2, pairs));
+
+    /* AB takes 4 touches, 3 signatures and a test; LANE 6 at size 6 and 4 at size 7; each line has the whole allowance */
+    EXPECT(outcomes_are(import(six, 1, 1, 2, 10), 6, outcomes));
+    static const uint32_t lane_too_long[6][2] = {{1, 20}, {4, 7}, {2, 0}, {4, 1}, {1, 20}, {1, 20}};
+    a = import(six, 1, 1, 2, 9);
+    EXPECT(outcomes_are(a, 6, lane_too_long) && pairs_are(a, 2, pairs));
+    a = import(six, 1, 1, 2, 4);
+    EXPECT(outcomes_are(a, 6, lane_too_long) && pairs_are(a, 2, pairs));
+    static const uint32_t all_too_long[6][2] = {{4, 7}, {4, 7}, {2, 0}, {4, 1}, {4, 7}, {4, 7}};
+    a = import(six, 1, 1, 2, 3);
+    EXPECT(outcomes_are(a, 6, all_too_long) && pairs_are(a, 0, NULL));
+
+    /* a bad measure, threshold or index refuses each line, and not the whole */
+    EXPECT(each_refused(import(six, 0, 0, 0, 1000), 4));
+    EXPECT(each_refused(import(six, 5, 1, 2, 1000), 4));
+    EXPECT(each_refused(import(six, 1, 2, 1, 1000), 5));
+    EXPECT(each_refused(import(six, 1, 1, 1001, 0), 5));
+    pools[2]++;
+    EXPECT(each_refused(import(six, 1, 1, 2, 0), 6));
+    pools[2]--;
+
+    /* the other numbers of a line: 65 bytes, a 0 byte, a tab */
+    static char odd[200];
+    int at = sprintf(odd, "4C0000000041");
+    for (int k = 0; k < 65; k++)
+        at += sprintf(odd + at, "41");
+    sprintf(odd + at, "\n4C00000000024100\n4C00000000024109\n");
+    a = import(odd, 1, 1, 2, 1000);
+    EXPECT(outcomes_are(a, 3, (const uint32_t[3][2]){{4, 2}, {4, 3}, {4, 12}}) && pairs_are(a, 0, NULL));
+
+    /* a missing reading is no 0: one alone has count 0, a 0 alone has count 1, and beside a reading it adds nothing */
+    a = import("4C0000FFFF024142\n", 1, 1, 2, 1000);
+    EXPECT(outcomes_are(a, 1, (const uint32_t[1][2]){{1, 20}}) && pairs_are(a, 1, (const uint32_t[1][4]){{20, 0, 0, 0}}));
+    a = import("4C00000000024142\n", 1, 1, 2, 1000);
+    EXPECT(outcomes_are(a, 1, (const uint32_t[1][2]){{1, 20}}) && pairs_are(a, 1, (const uint32_t[1][4]){{20, 0, 0, 1}}));
+    a = import("4C0000FFFF024142\n4C00060000024142\n4C0003FFFE024142\n4C0001FFFE024142\n", 1, 1, 2, 1000);
+    EXPECT(a.lines == 4 && pairs_are(a, 1, (const uint32_t[1][4]){{20, 0, 2 * 65534, 3}}));
+
+    /* by id and then by week, whatever the order of the lines; 65535 days are 9362 weeks and a day. By 1/1 LANE and LANES belong each to its own */
+    a = import("4C000D0005024142\n4CFFFF0006054C414E4553\n4C00070002044C414E45\n4C00060001044C414E45\n4C000E0004054C414E4553\n4C00070003044C414E45\n", 1, 1, 1, 1000);
+    EXPECT(outcomes_are(a, 6, (const uint32_t[6][2]){{1, 20}, {1, 11}, {1, 10}, {1, 10}, {1, 11}, {1, 10}}));
+    EXPECT(pairs_are(a, 5, (const uint32_t[5][4]){{10, 0, 1, 1}, {10, 1, 5, 2}, {11, 2, 4, 1}, {11, 9362, 6, 1}, {20, 1, 5, 1}}));
+
+    /* the first bad line decides, before the room, and nothing is written */
+    static const size_t none[COLUMNS] = {0, 0, 0, 0, 0, 0};
+    EXPECT(import_refused(import("4C0000002D024142\n4C\n4E000A044C414E45\n", 1, 1, 2, 1000), RUSHGIRDLE_MALFORMED, 2));
+    EXPECT(import_refused(import("4C0000002D024142\n4E0000024142\n4C0000002D024142\n", 0, 1, 2, 1000), 11, 2));
+    EXPECT(import_refused(import("4C0000002D024142\n4C0000002D024142", 1, 1, 2, 1000), 11, 2));
+    EXPECT(import_refused(import("\n4C0000002D024142\n", 1, 1, 2, 1000), 11, 1));
+    EXPECT(import_refused(import_into(none, "4C0000002D024142\n\n", 1, 1, 2, 1000), 11, 2));
+
+    /* with just the room, in columns of different lengths; and with a place less in each of the six */
+    static const size_t just[COLUMNS] = {6, 6, 2, 2, 2, 2}, uneven[2][COLUMNS] = {{6, 8, 2, 7, 5, 3}, {7, 6, 8, 2, 3, 2}};
+    a = import_into(just, six, 1, 1, 2, 1000);
+    EXPECT(outcomes_are(a, 6, outcomes) && pairs_are(a, 2, pairs));
+    for (int k = 0; k < 2; k++) {
+        a = import_into(uneven[k], six, 1, 1, 2, 1000);
+        EXPECT(outcomes_are(a, 6, outcomes) && pairs_are(a, 2, pairs));
+    }
+    for (int k = 0; k < COLUMNS; k++) {
+        size_t room[COLUMNS];
+        memcpy(room, all_places, sizeof room);
+        room[k] = k <= VALUES ? 5 : 1;
+        EXPECT(import_refused(import_into(room, six, 1, 1, 2, 1000), RUSHGIRDLE_ROOM, 0));
+    }
+
+    /* an empty log is answered; NULL with length 0: the log, the index, the columns */
+    a = import("", 0, 0, 0, 0);
+    EXPECT(outcomes_are(a, 0, NULL) && pairs_are(a, 0, NULL));
+    a = rushgirdle_import(NULL, 0, 1, 1, 2, 1000, NULL, 0, NULL, 0, NULL, 0, NULL, 0, NULL, 0, NULL, 0, NULL, 0);
+    EXPECT(a.number == 0 && a.line == 0 && a.lines == 0 && a.pairs == 0);
+    a = rushgirdle_import((const uint8_t *)six, strlen(six), 1, 1, 2, 1000, pools, INDEX, NULL, 0, NULL, 0, NULL, 0, NULL, 0, NULL, 0, NULL, 0);
+    EXPECT(a.number == 8 && a.line == 0 && a.lines == 0 && a.pairs == 0);
+    fill_lent();
+    a = rushgirdle_import((const uint8_t *)six, strlen(six), 1, 1, 2, 1000, NULL, 0, lent[CASES], 6, lent[VALUES], 6, NULL, 0, NULL, 0, NULL, 0, NULL, 0);
+    EXPECT(each_refused(a, 6));
+    /* no pair takes no place */
+    fill_lent();
+    a = rushgirdle_import((const uint8_t *)"4C00000002025A5A\n", 17, 1, 1, 2, 1000, pools, INDEX, lent[CASES], 1, lent[VALUES], 1, NULL, 0, NULL, 0, NULL, 0, NULL, 0);
+    EXPECT(outcomes_are(a, 1, (const uint32_t[1][2]){{2, 0}}) && pairs_are(a, 0, NULL));
+}
+
+enum { MOST = RUSHGIRDLE_MOST_LINES, LOG_LINE = 17 };
+static char long_log[(MOST + 1) * LOG_LINE + 1];
+static uint32_t many[COLUMNS][MOST + 1];
+
+/* the first bytes of the long log, with so many places for ids; the other columns have enough */
+static rushgirdle_import_answer import_long(size_t length, size_t places)
+{
+    memset(many, 0xA5, sizeof many);
+    return rushgirdle_import((const uint8_t *)long_log, length, 1, 1, 1, 4, words, INDEX, many[CASES], MOST, many[VALUES], MOST + 1,
+                             many[IDS], places, many[WEEKS], MOST, many[SUMS], MOST + 1, many[COUNTS], MOST);
+}
+
+static int long_refused(rushgirdle_import_answer a, unsigned number, uint32_t line)
+{
+    return a.number == number && a.line == line && a.lines == 0 && a.pairs == 0 && all_bytes((const uint8_t *)many, 0, sizeof many, 0xA5);
+}
+
+static void test_import_most(void)
+{
+    EXPECT(rushgirdle_build((const uint8_t *)"4EFFFF024142\n", 13, words, INDEX).number == 0);
+
+    /* AB under 65535 in weeks 1023 down to 0, with the readings 0 to 1023: 1024 lines pass, with as many pairs */
+    for (unsigned i = 0; i < MOST; i++)
+        sprintf(long_log + LOG_LINE * i, "4C%04X%04X024142\n", 7 * (MOST - 1 - i), i);
+    rushgirdle_import_answer a = import_long(MOST * LOG_LINE, MOST);
+    EXPECT(a.number == 0 && a.line == 0 && a.lines == 1024 && a.pairs == 1024);
+    EXPECT(all_words(many[CASES], 0, MOST, 1) && all_words(many[VALUES], 0, MOST, 65535));
+    EXPECT(all_words(many[IDS], 0, MOST, 65535) && all_words(many[COUNTS], 0, MOST, 1));
+    int ascend = 1;
+    for (uint32_t k = 0; k < MOST; k++)
+        ascend = ascend && many[WEEKS][k] == k && many[SUMS][k] == 1023 - k;
+    EXPECT(ascend);
+    for (int c = 0; c < COLUMNS; c++)
+        EXPECT(many[c][MOST] == KEPT);
+    EXPECT(long_refused(import_long(MOST * LOG_LINE, MOST - 1), 8, 0));
+
+    /* a 1025th is refused with 10, a frame or not; one before it that is no frame comes first */
+    sprintf(long_log + LOG_LINE * MOST, "4C00000000024142\n");
+    EXPECT(long_refused(import_long((MOST + 1) * LOG_LINE, MOST), RUSHGIRDLE_FULL, 1025));
+    EXPECT(long_refused(import_long(MOST * LOG_LINE + 1, 0), 10, 1025));
+    long_log[MOST * LOG_LINE - 2] = 'x';
+    EXPECT(long_refused(import_long((MOST + 1) * LOG_LINE, MOST), 11, 1024));
+
+    /* 1024 of the largest readings in one week */
+    for (unsigned i = 0; i < MOST; i++)
+        sprintf(long_log + LOG_LINE * i, "4C0006FFFE024142\n");
+    a = import_long(MOST * LOG_LINE, 1);
+    EXPECT(a.number == 0 && a.lines == 1024 && a.pairs == 1);
+    EXPECT(many[IDS][0] == 65535 && many[WEEKS][0] == 0 && many[SUMS][0] == 1024u * 65534 && many[COUNTS][0] == 1024);
+    EXPECT(many[IDS][1] == KEPT && many[WEEKS][1] == KEPT && many[SUMS][1] == KEPT && many[COUNTS][1] == KEPT);
+}
+
 /* ---- frames */
 
 static uint8_t buffer[600];
@@ -459,6 +664,22 @@ static void test_read(void)
     EXPECT(x.number == 11 && x.refusal == 0 && x.touches == 0);
     x = rushgirdle_read_refusal(NULL, 0);
     EXPECT(x.number == 11 && x.refusal == 0 && x.touches == 0);
+
+    line = "4C1234ABCD025A59\n";
+    rushgirdle_log_answer l = rushgirdle_read_log(bytes(line), strlen(line), buffer, 2);
+    EXPECT(l.number == 0 && l.day == 0x1234 && l.reading == 0xABCD && l.len == 2);
+    EXPECT(memcmp(buffer, "ZY", 2) == 0 && all_bytes(buffer, 2, 600, 0xA5));
+    fill_bytes();
+    l = rushgirdle_read_log(bytes(line), strlen(line), buffer, 1);
+    EXPECT(l.number == 8 && l.day == 0 && l.reading == 0 && l.len == 0 && all_bytes(buffer, 0, 600, 0xA5));
+    l = rushgirdle_read_log(bytes(line), strlen(line) - 1, buffer, 600);
+    EXPECT(l.number == 11 && l.day == 0 && l.reading == 0 && l.len == 0 && all_bytes(buffer, 0, 600, 0xA5));
+    l = rushgirdle_read_log(bytes("4E1234ABCD025A59\n"), 17, buffer, 600);
+    EXPECT(l.number == 11 && l.day == 0 && l.reading == 0 && l.len == 0 && all_bytes(buffer, 0, 600, 0xA5));
+    l = rushgirdle_read_log(bytes("4C0007FFFF00\n"), 13, NULL, 0);
+    EXPECT(l.number == 0 && l.day == 7 && l.reading == RUSHGIRDLE_MISSING && l.len == 0);
+    l = rushgirdle_read_log(NULL, 0, buffer, 600);
+    EXPECT(l.number == 11 && l.day == 0 && l.reading == 0 && l.len == 0 && all_bytes(buffer, 0, 600, 0xA5));
 }
 
 /* the answer is the line, and what is after it is kept */
@@ -496,6 +717,10 @@ static void test_write(void)
     EXPECT(wrote(rushgirdle_write_refusal(buffer, 13, 7, 0xFEDCBA98u), "5807FEDCBA98\n"));
     EXPECT(not_written(rushgirdle_write_refusal(buffer, 12, 7, 0xFEDCBA98u), 8));
     EXPECT(not_written(rushgirdle_write_refusal(NULL, 0, 7, 1), 8));
+    EXPECT(wrote(rushgirdle_write_log(buffer, 17, 0x1234, 0xABCD, bytes("ZY"), 2), "4C1234ABCD025A59\n"));
+    EXPECT(not_written(rushgirdle_write_log(buffer, 16, 0x1234, 0xABCD, bytes("ZY"), 2), 8));
+    EXPECT(wrote(rushgirdle_write_log(buffer, 600, 7, RUSHGIRDLE_MISSING, NULL, 0), "4C0007FFFF00\n"));
+    EXPECT(not_written(rushgirdle_write_log(NULL, 0, 1, 2, NULL, 0), 8));
 
     /* 255 bytes are written, into just RUSHGIRDLE_LONGEST_LINE; 256 give 2, before 8 */
     uint8_t name[256];
@@ -507,6 +732,7 @@ static void test_write(void)
     EXPECT(not_written(rushgirdle_write_query(buffer, RUSHGIRDLE_LONGEST_LINE - 1, 1, 2, 3, 4, name, 255), 8));
     EXPECT(not_written(rushgirdle_write_query(buffer, 0, 1, 2, 3, 4, name, 256), 2));
     EXPECT(not_written(rushgirdle_write_name(buffer, 600, 1, name, 256), 2));
+    EXPECT(not_written(rushgirdle_write_log(buffer, 600, 1, 2, name, 256), 2));
 }
 
 /* ---- slices that end where memory ends */
@@ -548,6 +774,23 @@ static void test_fences(void)
     EXPECT(a.number == 0 && a.rows == 2 && a.touches == 6 && a.p == 1 && a.q == 1);
     EXPECT(row_is(&r[0], 1, 3, 3) && row_is(&r[1], 2, 3, 3) && row_is(&r[-1], KEPT, KEPT, KEPT));
 
+    /* A alone, under 5: a reading of 45 and a missing one in one week; and every shorter log */
+    static const uint32_t five[19] = {1, 3, 3, 1283, 3, 16641, 0, 1, 3, 4259841, 1, 1, 3, 1090519041, 2, 1, 5, 5, 5};
+    static const char log[] = "4C0000002D0141\n4C0006FFFF0141\n";
+    uint32_t *index = fenced(five, sizeof five), *column[COLUMNS];
+    for (int k = 0; k < COLUMNS; k++)
+        column[k] = fenced(NULL, k <= VALUES ? 8 : 4);
+    for (size_t n = 0; n <= 30; n++) {
+        rushgirdle_import_answer m = rushgirdle_import(fenced(log, n), n, 1, 1, 1, 6, index, 19, column[CASES], 2, column[VALUES], 2,
+                                                       column[IDS], 1, column[WEEKS], 1, column[SUMS], 1, column[COUNTS], 1);
+        EXPECT(m.number == (n % 15 == 0 ? 0 : 11) && m.line == (n % 15 == 0 ? 0 : n / 15 + 1));
+        EXPECT(m.lines == (n % 15 == 0 ? n / 15 : 0) && m.pairs == (n % 15 == 0 && n > 0));
+    }
+    EXPECT(column[CASES][0] == 1 && column[CASES][1] == 1 && column[VALUES][0] == 5 && column[VALUES][1] == 5);
+    EXPECT(column[IDS][0] == 5 && column[WEEKS][0] == 0 && column[SUMS][0] == 45 && column[COUNTS][0] == 1);
+    for (int k = 0; k < COLUMNS; k++)
+        EXPECT(column[k][-1] == KEPT);
+
     const char *line = "5103123456789ABCDEF0025A59\n";
     uint8_t *whole = fenced(line, 27), *name = fenced(NULL, 2), *out = fenced(NULL, 27);
     rushgirdle_query_answer q = rushgirdle_read_query(whole, 27, name, 2);
@@ -562,10 +805,12 @@ static void test_fences(void)
     EXPECT(rushgirdle_read_row(fenced("521234AB56\n", 11), 11).number == 0);
     EXPECT(rushgirdle_read_end(fenced("45123456789ABCDEF01122\n", 23), 23).number == 0);
     EXPECT(rushgirdle_read_refusal(fenced("5807FEDCBA98\n", 13), 13).number == 0);
+    EXPECT(rushgirdle_read_log(fenced("4C1234ABCD025A59\n", 17), 17, fenced(NULL, 2), 2).number == 0);
     EXPECT(rushgirdle_write_name(fenced(NULL, 17), 17, 1, fenced("LANE", 4), 4).number == 0);
     EXPECT(rushgirdle_write_row(fenced(NULL, 11), 11, 1, 2, 3).number == 0);
     EXPECT(rushgirdle_write_end(fenced(NULL, 23), 23, 1, 2, 3, 4).number == 0);
     EXPECT(rushgirdle_write_refusal(fenced(NULL, 13), 13, 1, 2).number == 0);
+    EXPECT(rushgirdle_write_log(fenced(NULL, 17), 17, 1, 2, fenced("ZY", 2), 2).number == 0);
 }
 
 int main(void)
@@ -575,6 +820,8 @@ int main(void)
     test_list();
     test_search();
     test_rows();
+    test_import();
+    test_import_most();
     test_read();
     test_write();
     test_fences();

@@ -392,7 +392,7 @@ fn one_line_too_many(_: &[u8], before: &[Registered]) -> Option<Refusal> {
     (before.len() == NAMES).then_some(Refusal::Crowd)
 }
 
-fn without(input: &[u8], byte: u8) -> Vec<u8> {
+pub fn without(input: &[u8], byte: u8) -> Vec<u8> {
     input.iter().copied().filter(|other| *other != byte).collect()
 }
 

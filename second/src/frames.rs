@@ -1,4 +1,4 @@
-//! The five frames: lines of hexadecimal to fields, and back.
+//! The ten frames: lines of hexadecimal to fields, and back.
 
 use crate::limits::FRAME_NAME;
 use crate::refusal::Refusal;
@@ -8,9 +8,17 @@ pub const QUERY: u8 = 0x51;
 pub const ROW: u8 = 0x52;
 pub const END: u8 = 0x45;
 pub const REFUSED: u8 = 0x58;
+pub const LOG: u8 = 0x4C;
+pub const OUTCOME: u8 = 0x4F;
+pub const PAIR: u8 = 0x50;
+pub const IMPORT_END: u8 = 0x5A;
+pub const IMPORT_REFUSED: u8 = 0x59;
 
-/// The kinds of frame.
+/// The kinds of frame of a lookup.
 pub const KINDS: [u8; 5] = [NAME, QUERY, ROW, END, REFUSED];
+
+/// The kinds of frame that an importer writes.
+pub const IMPORT_KINDS: [u8; 4] = [OUTCOME, PAIR, IMPORT_END, IMPORT_REFUSED];
 
 /// 4E as read; the name's bytes are in the lent buffer. After a refusal every field is 0.
 #[derive(Clone, Copy, Debug, Default, PartialEq, Eq)]
@@ -56,6 +64,50 @@ pub struct RefusedFrame {
     pub number: u8,
     pub refusal: u8,
     pub touches: u32,
+}
+
+/// 4C as read; the typed name's bytes are in the lent buffer. After a refusal every field is 0.
+#[derive(Clone, Copy, Debug, Default, PartialEq, Eq)]
+pub struct LogFrame {
+    pub number: u8,
+    pub day: u16,
+    pub reading: u16,
+    pub length: u8,
+}
+
+/// 4F as read. After a refusal every field is 0.
+#[derive(Clone, Copy, Debug, Default, PartialEq, Eq)]
+pub struct OutcomeFrame {
+    pub number: u8,
+    pub case: u8,
+    pub value: u16,
+}
+
+/// 50 as read. After a refusal every field is 0.
+#[derive(Clone, Copy, Debug, Default, PartialEq, Eq)]
+pub struct PairFrame {
+    pub number: u8,
+    pub id: u16,
+    pub week: u16,
+    pub sum: u32,
+    pub count: u16,
+}
+
+/// 5A as read. After a refusal every field is 0.
+#[derive(Clone, Copy, Debug, Default, PartialEq, Eq)]
+pub struct ImportEndFrame {
+    pub number: u8,
+    pub outcomes: u16,
+    pub pairs: u16,
+}
+
+/// 59 as read: `number` is that of the reading, `refusal` the one the frame carries. After a refusal every field is 0.
+#[derive(Clone, Copy, Debug, Default, PartialEq, Eq)]
+pub struct ImportRefusedFrame {
+    pub number: u8,
+    pub part: u8,
+    pub refusal: u8,
+    pub line: u16,
 }
 
 /// What a writer reports: its number, and how many bytes it wrote, 0 with a refusal.
@@ -183,6 +235,56 @@ pub fn read_refused(line: &[u8]) -> RefusedFrame {
     }
 }
 
+/// Reads a 4C line: 11, then 8 where the name does not fit the buffer. Other bytes of the buffer keep their contents.
+pub fn read_log(line: &[u8], buffer: &mut [u8]) -> LogFrame {
+    let Some((fields, name)) = named(line, LOG, 4) else {
+        return LogFrame { number: MALFORMED, ..LogFrame::default() };
+    };
+    if name.len() > buffer.len() {
+        return LogFrame { number: ROOM, ..LogFrame::default() };
+    }
+    buffer[..name.len()].copy_from_slice(&name);
+    LogFrame { number: 0, day: two(&fields[..2]), reading: two(&fields[2..]), length: name.len() as u8 }
+}
+
+/// Reads a 4F line.
+pub fn read_outcome(line: &[u8]) -> OutcomeFrame {
+    match fixed(line, OUTCOME, 3) {
+        Some(fields) => OutcomeFrame { number: 0, case: fields[0], value: two(&fields[1..]) },
+        None => OutcomeFrame { number: MALFORMED, ..OutcomeFrame::default() },
+    }
+}
+
+/// Reads a 50 line.
+pub fn read_pair(line: &[u8]) -> PairFrame {
+    match fixed(line, PAIR, 10) {
+        Some(fields) => PairFrame {
+            number: 0,
+            id: two(&fields[..2]),
+            week: two(&fields[2..4]),
+            sum: four(&fields[4..8]),
+            count: two(&fields[8..]),
+        },
+        None => PairFrame { number: MALFORMED, ..PairFrame::default() },
+    }
+}
+
+/// Reads a 5A line.
+pub fn read_import_end(line: &[u8]) -> ImportEndFrame {
+    match fixed(line, IMPORT_END, 4) {
+        Some(fields) => ImportEndFrame { number: 0, outcomes: two(&fields[..2]), pairs: two(&fields[2..]) },
+        None => ImportEndFrame { number: MALFORMED, ..ImportEndFrame::default() },
+    }
+}
+
+/// Reads a 59 line.
+pub fn read_import_refused(line: &[u8]) -> ImportRefusedFrame {
+    match fixed(line, IMPORT_REFUSED, 4) {
+        Some(fields) => ImportRefusedFrame { number: 0, part: fields[0], refusal: fields[1], line: two(&fields[2..]) },
+        None => ImportRefusedFrame { number: MALFORMED, ..ImportRefusedFrame::default() },
+    }
+}
+
 /// Puts the line of some bytes into the buffer, or refuses with 8; other bytes of the buffer keep their contents.
 fn put(bytes: &[u8], buffer: &mut [u8]) -> Written {
     let line = line_of(bytes);
@@ -226,4 +328,30 @@ pub fn write_end(rows: u16, touches: u32, p: u16, q: u16, buffer: &mut [u8]) -> 
 /// Writes a 58 line.
 pub fn write_refused(refusal: u8, touches: u32, buffer: &mut [u8]) -> Written {
     put(&[&[REFUSED, refusal][..], &touches.to_be_bytes()].concat(), buffer)
+}
+
+/// Writes a 4C line.
+pub fn write_log(day: u16, reading: u16, name: &[u8], buffer: &mut [u8]) -> Written {
+    put_named(LOG, &[day.to_be_bytes(), reading.to_be_bytes()].concat(), name, buffer)
+}
+
+/// Writes a 4F line.
+pub fn write_outcome(case: u8, value: u16, buffer: &mut [u8]) -> Written {
+    put(&[&[OUTCOME, case][..], &value.to_be_bytes()].concat(), buffer)
+}
+
+/// Writes a 50 line.
+pub fn write_pair(id: u16, week: u16, sum: u32, count: u16, buffer: &mut [u8]) -> Written {
+    let fields = [&id.to_be_bytes()[..], &week.to_be_bytes(), &sum.to_be_bytes(), &count.to_be_bytes()].concat();
+    put(&[&[PAIR][..], &fields].concat(), buffer)
+}
+
+/// Writes a 5A line.
+pub fn write_import_end(outcomes: u16, pairs: u16, buffer: &mut [u8]) -> Written {
+    put(&[&[IMPORT_END][..], &outcomes.to_be_bytes(), &pairs.to_be_bytes()].concat(), buffer)
+}
+
+/// Writes a 59 line.
+pub fn write_import_refused(part: u8, refusal: u8, line: u16, buffer: &mut [u8]) -> Written {
+    put(&[&[IMPORT_REFUSED, part, refusal][..], &line.to_be_bytes()].concat(), buffer)
 }

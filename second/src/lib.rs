@@ -1,10 +1,11 @@
-//! A second lookup, written from the rule (`docs/RULE.md`) alone and sharing nothing with the proved crates.
+//! A second lookup and importer, written from the rule (`docs/RULE.md`) alone and sharing nothing with the proved crates.
 //! It is naive on purpose: it follows the rule's words step by step, so that a reader can hold one beside the other.
 //!
-//! The rule: [`features`], [`measures`], [`index`] and [`good`], [`build`], [`search`], [`frames`], [`lookup`].
+//! The rule: [`features`], [`measures`], [`index`] and [`good`], [`build`], [`search`], [`frames`], [`lookup`], [`import`],
+//! [`importer`].
 //! A still more naive check of the search, by the definition of likeness: [`listed`].
-//! For comparisons: the line protocols [`protocol`], the inputs [`generate`], the runner [`differ`], and the
-//! lookups that are wrong on purpose, [`faults`].
+//! For comparisons: the line protocols [`protocol`], the inputs [`generate`], the runner [`differ`], and what is wrong
+//! on purpose: lookups, [`faults`], and imports, [`import_faults`].
 
 pub mod build;
 pub mod differ;
@@ -13,6 +14,9 @@ pub mod features;
 pub mod frames;
 pub mod generate;
 pub mod good;
+pub mod import;
+pub mod import_faults;
+pub mod importer;
 pub mod index;
 pub mod limits;
 pub mod listed;

@@ -24,3 +24,14 @@ pub const INPUT: usize = 65_536;
 pub const INDEX_WORDS: usize = 16_384;
 /// The rows of the program's row list.
 pub const ROWS: usize = 256;
+/// The most lines of a log; one more is a refusal.
+pub const LOG_LINES: usize = 1024;
+/// The days of a week.
+pub const WEEK: u32 = 7;
+/// The reading that says that there is none.
+pub const NO_READING: u16 = 65_535;
+/// The words of the importer's index: room for every register, 3 + 256 + 5 × 16,896.
+pub const IMPORTER_WORDS: usize = 84_739;
+/// The most bytes of input that the importer takes: 256 of the longest 4E lines (519 bytes each), a 51 line with an empty
+/// name (23), and 1,024 of the longest 4C lines (523 each).
+pub const IMPORTER_INPUT: usize = 668_439;

@@ -9,10 +9,11 @@ use std::process::ExitCode;
 use second::differ::{differ, program, Run};
 use second::faults;
 use second::generate;
-use second::protocol::Kind;
+use second::import_faults;
+use second::protocol::{import_answer, Kind};
 
 const USAGE: &str = "usage:
-    second lookup|features|likeness|good|list|build|search|frames    standard input to standard output
+    second lookup|importer|features|likeness|good|list|build|search|frames|import    standard input to standard output
     second generate SEED COUNT KIND [--from AT] [--to DIRECTORY]
     second differ --program PATH [--arg WORD]..  --seed SEED --count COUNT
                   [--kind KIND] [--regressions DIRECTORY] [--seconds SECONDS]";
@@ -23,10 +24,7 @@ fn main() -> ExitCode {
     let done = match words[..] {
         ["generate", ref rest @ ..] => generate_inputs(rest),
         ["differ", ref rest @ ..] => run_differ(rest),
-        ["lookup", "--fault", name] => answer_by(|input| match faults::fault(name) {
-            Some(lookup) => Ok(lookup(input)),
-            None => Err(format!("no fault {name}")),
-        }),
+        [kind, "--fault", name] => answer_by(|input| wrong_answer(kind, name, input)),
         [kind] => match Kind::of(kind) {
             Some(kind) => answer_by(|input| kind.answer(input)),
             None => Err(USAGE.to_string()),
@@ -56,6 +54,18 @@ fn answer_by(answer: impl FnOnce(&[u8]) -> Result<Vec<u8>, String>) -> Result<bo
     Ok(true)
 }
 
+/// The output of what has a fault.
+fn wrong_answer(kind: &str, name: &str, input: &[u8]) -> Result<Vec<u8>, String> {
+    let wrong = match Kind::of(kind) {
+        Some(Kind::Lookup) => faults::fault(name).map(|lookup| Ok(lookup(input))),
+        Some(Kind::Import) => import_faults::import_fault(name)
+            .map(|wrong| import_answer(input, |log, s, words, o, p| wrong.import(log, s, words, o, p))),
+        Some(Kind::Importer) => import_faults::importer_fault(name).map(|importer| Ok(importer(input))),
+        _ => return Err(USAGE.to_string()),
+    };
+    wrong.unwrap_or_else(|| Err(format!("no fault {name}")))
+}
+
 fn number(word: &str, what: &str) -> Result<u64, String> {
     word.parse().map_err(|_| format!("{what} is {word}\n{USAGE}"))
 }
@@ -64,7 +74,7 @@ fn kind_of(word: &str) -> Result<Kind, String> {
     Kind::of(word).ok_or(format!("no kind {word}\n{USAGE}"))
 }
 
-/// `generate`: line kinds one after the other; a single `lookup` input as it is, several only into files.
+/// `generate`: line kinds one after the other; a single input of a program as it is, several only into files.
 fn generate_inputs(words: &[&str]) -> Result<bool, String> {
     let [seed, count, kind, options @ ..] = words else { return Err(USAGE.to_string()) };
     let (seed, count, kind) = (number(seed, "SEED")?, number(count, "COUNT")?, kind_of(kind)?);
@@ -76,8 +86,8 @@ fn generate_inputs(words: &[&str]) -> Result<bool, String> {
             _ => return Err(USAGE.to_string()),
         }
     }
-    if kind == Kind::Lookup && count != 1 && to.is_none() {
-        return Err("several inputs of kind lookup need --to DIRECTORY".to_string());
+    if !kind.by_line() && count != 1 && to.is_none() {
+        return Err(format!("several inputs of kind {} need --to DIRECTORY", kind.word()));
     }
     eprintln!("seed {seed}, {count} inputs of kind {}, from {from}", kind.word());
     for at in from..from + count {

@@ -1,5 +1,5 @@
 //! The line protocols by which another program can be compared with this one, part by part. README.md sets them out.
-//! One case a line in, one line out; `lookup` alone takes its input whole.
+//! One case a line in, one line out; the programs `lookup` and `importer` take their inputs whole.
 
 use std::fmt::Write;
 use std::ops::Range;
@@ -8,6 +8,8 @@ use crate::build::build;
 use crate::features::{features, judge};
 use crate::frames;
 use crate::good::good;
+use crate::import::{import, Imported, Outcomes, Pairs, Settings};
+use crate::importer::importer;
 use crate::index::list_for;
 use crate::lookup::lookup;
 use crate::measures::{least_count, searched, similar, Measure, Threshold};
@@ -20,6 +22,9 @@ pub const LENT_BYTE: u8 = 0xA5;
 pub const LENT_WORD: u32 = 0xA5A5_A5A5;
 /// What every lent row holds before a call.
 pub const LENT_ROW: AnswerRow = AnswerRow { id: 165, shared: 165, size: 165 };
+
+/// What every lent place of a column holds before a call.
+pub const LENT_FIELD: u32 = 165;
 
 /// The part of the rule that a protocol is for. A new one goes last, so that seeds keep their inputs.
 #[derive(Clone, Copy, Debug, PartialEq, Eq)]
@@ -34,10 +39,16 @@ pub enum Kind {
     Frames,
     /// The protocol of `Good`, on indexes of which every word is changed in turn.
     Sweep,
+    Import,
+    Importer,
+    /// The protocol of `Frames`, on the lines of a log.
+    LogFrames,
+    /// The protocol of `Frames`, on the lines that an importer writes.
+    ImportFrames,
 }
 
 impl Kind {
-    pub const ALL: [Kind; 9] = [
+    pub const ALL: [Kind; 13] = [
         Kind::Lookup,
         Kind::Features,
         Kind::Likeness,
@@ -47,6 +58,10 @@ impl Kind {
         Kind::Search,
         Kind::Frames,
         Kind::Sweep,
+        Kind::Import,
+        Kind::Importer,
+        Kind::LogFrames,
+        Kind::ImportFrames,
     ];
 
     pub fn word(self) -> &'static str {
@@ -60,6 +75,10 @@ impl Kind {
             Kind::Search => "search",
             Kind::Frames => "frames",
             Kind::Sweep => "sweep",
+            Kind::Import => "import",
+            Kind::Importer => "importer",
+            Kind::LogFrames => "log_frames",
+            Kind::ImportFrames => "import_frames",
         }
     }
 
@@ -69,31 +88,46 @@ impl Kind {
 
     /// Whether an input is one line, so that many can be given at once.
     pub fn by_line(self) -> bool {
-        self != Kind::Lookup
+        self != Kind::Lookup && self != Kind::Importer
     }
 
     /// The whole output for a whole input, or why the input does not follow the protocol.
     pub fn answer(self, input: &[u8]) -> Result<Vec<u8>, String> {
         let line: fn(&mut Words<'_>) -> Result<String, String> = match self {
             Kind::Lookup => return Ok(lookup(input)),
+            Kind::Importer => return Ok(importer(input)),
             Kind::Features => features_line,
             Kind::Likeness => likeness_line,
             Kind::Good | Kind::Sweep => good_line,
             Kind::List => list_line,
             Kind::Build => build_line,
             Kind::Search => search_line,
-            Kind::Frames => frames_line,
+            Kind::Frames | Kind::LogFrames | Kind::ImportFrames => frames_line,
+            Kind::Import => return import_answer(input, import),
         };
-        let text = std::str::from_utf8(input).map_err(|_| "not text".to_string())?;
-        let mut output = String::new();
-        for (at, case) in text.lines().enumerate() {
-            let mut words = Words { rest: case.split_ascii_whitespace().collect() };
-            let answered = line(&mut words).and_then(|answer| words.end().map(|()| answer));
-            output += &answered.map_err(|why| format!("line {}: {why}", at + 1))?;
-            output.push('\n');
-        }
-        Ok(output.into_bytes())
+        by_lines(input, line)
     }
+}
+
+/// The answers to the cases of an input, line by line, or why one does not follow its protocol.
+fn by_lines(input: &[u8], line: impl Fn(&mut Words<'_>) -> Result<String, String>) -> Result<Vec<u8>, String> {
+    let text = std::str::from_utf8(input).map_err(|_| "not text".to_string())?;
+    let mut output = String::new();
+    for (at, case) in text.lines().enumerate() {
+        let mut words = Words { rest: case.split_ascii_whitespace().collect() };
+        let answered = line(&mut words).and_then(|answer| words.end().map(|()| answer));
+        output += &answered.map_err(|why| format!("line {}: {why}", at + 1))?;
+        output.push('\n');
+    }
+    Ok(output.into_bytes())
+}
+
+/// The protocol `import` over a given import.
+pub fn import_answer(
+    input: &[u8],
+    import: impl Fn(&[u8], &Settings, &[u32], &mut Outcomes, &mut Pairs) -> Imported,
+) -> Result<Vec<u8>, String> {
+    by_lines(input, |case| import_line(case, &import))
 }
 
 /// The words of a case that are still to be read.
@@ -229,6 +263,36 @@ fn search_line(case: &mut Words<'_>) -> Result<String, String> {
     Ok(joined(head, &spaced(&rows)))
 }
 
+fn import_line(
+    case: &mut Words<'_>,
+    import: impl Fn(&[u8], &Settings, &[u32], &mut Outcomes, &mut Pairs) -> Imported,
+) -> Result<String, String> {
+    let (measure, p, q) = (case.number("measure")?, case.number("p")?, case.number("q")?);
+    let settings = Settings { measure, p, q, allowance: case.number("allowance")? };
+    let (lines, of_weeks) = (case.number("lines")?, case.number("pairs")?);
+    let (mut outcomes, mut pairs) = (Outcomes::lent(lines, LENT_FIELD), Pairs::lent(of_weeks, LENT_FIELD));
+    let log = case.bytes("log")?;
+    let answer = import(&log, &settings, &case.slice()?, &mut outcomes, &mut pairs);
+    let mut shown: Vec<String> = (0..lines).map(|at| shown_outcome(outcomes.cases[at], outcomes.values[at])).collect();
+    shown.extend(
+        (0..of_weeks)
+            .map(|at| format!("{}:{}:{}:{}", pairs.ids[at], pairs.weeks[at], pairs.sums[at], pairs.counts[at])),
+    );
+    let head = format!("{} {} {} {}", answer.number, answer.line, answer.lines, answer.pairs);
+    Ok(joined(head, &spaced(&shown)))
+}
+
+/// An outcome as `bID`, `u`, `a` or `rNUMBER`; two numbers that are none as `CASE:VALUE`.
+fn shown_outcome(case: u32, value: u32) -> String {
+    match (case, value) {
+        (1, id) => format!("b{id}"),
+        (2, 0) => "u".to_string(),
+        (3, 0) => "a".to_string(),
+        (4, number) => format!("r{number}"),
+        _ => format!("{case}:{value}"),
+    }
+}
+
 fn frames_line(case: &mut Words<'_>) -> Result<String, String> {
     match case.word("read or write")? {
         "read" => read_line(case),
@@ -262,6 +326,26 @@ fn read_line(case: &mut Words<'_>) -> Result<String, String> {
             let frame = frames::read_refused(&line);
             format!("{} {} {}", frame.number, frame.refusal, frame.touches)
         }
+        [frames::LOG] => {
+            let frame = frames::read_log(&line, &mut buffer);
+            format!("{} {} {} {}", frame.number, frame.day, frame.reading, frame.length)
+        }
+        [frames::OUTCOME] => {
+            let frame = frames::read_outcome(&line);
+            format!("{} {} {}", frame.number, frame.case, frame.value)
+        }
+        [frames::PAIR] => {
+            let frame = frames::read_pair(&line);
+            format!("{} {} {} {} {}", frame.number, frame.id, frame.week, frame.sum, frame.count)
+        }
+        [frames::IMPORT_END] => {
+            let frame = frames::read_import_end(&line);
+            format!("{} {} {}", frame.number, frame.outcomes, frame.pairs)
+        }
+        [frames::IMPORT_REFUSED] => {
+            let frame = frames::read_import_refused(&line);
+            format!("{} {} {} {}", frame.number, frame.part, frame.refusal, frame.line)
+        }
         _ => return Err("no such kind".to_string()),
     };
     Ok(format!("{fields} {}", pairs(&buffer)))
@@ -286,6 +370,20 @@ fn write_line(case: &mut Words<'_>) -> Result<String, String> {
             frames::write_end(rows, touches, case.number("p")?, case.number("q")?, &mut buffer)
         }
         [frames::REFUSED] => frames::write_refused(case.number("number")?, case.number("touches")?, &mut buffer),
+        [frames::LOG] => {
+            let (day, reading) = (case.number("day")?, case.number("reading")?);
+            frames::write_log(day, reading, &case.bytes("name")?, &mut buffer)
+        }
+        [frames::OUTCOME] => frames::write_outcome(case.number("case")?, case.number("value")?, &mut buffer),
+        [frames::PAIR] => {
+            let (id, week, sum) = (case.number("id")?, case.number("week")?, case.number("sum")?);
+            frames::write_pair(id, week, sum, case.number("count")?, &mut buffer)
+        }
+        [frames::IMPORT_END] => frames::write_import_end(case.number("outcomes")?, case.number("pairs")?, &mut buffer),
+        [frames::IMPORT_REFUSED] => {
+            let (part, number) = (case.number("part")?, case.number("number")?);
+            frames::write_import_refused(part, number, case.number("line")?, &mut buffer)
+        }
         _ => return Err("no such kind".to_string()),
     };
     Ok(format!("{} {} {}", written.number, written.length, pairs(&buffer)))

@@ -17,11 +17,11 @@ pub enum Refusal {
     NotGood = 6,
     /// The touches needed exceed the allowance.
     Allowance = 7,
-    /// What is lent is too small: rows, words or bytes; or the program's input is too large.
+    /// What is lent is too small: rows, words, bytes, outcomes or pairs; or a program's input is too large.
     Room = 8,
     /// The register id is not above the one before.
     Order = 9,
-    /// A 257th name.
+    /// A 257th name, or the 1,025th line of a log.
     Crowd = 10,
     /// A malformed frame.
     Malformed = 11,

@@ -45,10 +45,20 @@ fn run(words: &[&str]) -> (Option<i32>, Vec<String>) {
 
 #[test]
 fn the_kept_regressions_hold() {
-    let kept = kept(&regressions(), Kind::Lookup).unwrap();
-    assert!(kept.iter().any(|one| one.name == "listing"));
-    for one in kept {
-        assert_eq!(lookup(&one.input), one.output, "{}", one.name);
+    // A kind, and one of its regressions.
+    for (kind, known) in [
+        (Kind::Lookup, "listing"),
+        (Kind::Import, "one_of_each_outcome"),
+        (Kind::Importer, "one_of_each_outcome"),
+        (Kind::Search, "index_with_a_tab"),
+        (Kind::Good, "index_with_a_tab"),
+    ] {
+        let kept = kept(&regressions(), kind).unwrap();
+        assert!(kept.iter().any(|one| one.name == known));
+        for one in kept {
+            let output = kind.answer(&one.input).unwrap();
+            assert_eq!(output.escape_ascii().to_string(), one.output.escape_ascii().to_string(), "{}", one.name);
+        }
     }
 }
 
@@ -107,6 +117,38 @@ fn a_difference_repeats_as_printed() {
             FAULTS.iter().find(|(name, _)| *name == fault).unwrap().1(&input) == lookup(&input)
         }));
         fs::remove_dir_all(empty).unwrap();
+    }
+}
+
+/// Faults that a kept regression shows, each with its kind.
+const BY_REGRESSIONS: [(&str, &str); 17] = [
+    ("import", "missing_reading_counted_as_0"),
+    ("import", "missing_reading_added_to_the_sum"),
+    ("import", "refused_taken_as_unresolved"),
+    ("import", "ambiguous_given_to_first_id"),
+    ("import", "week_rounded_up"),
+    ("import", "pair_without_readings_left_out"),
+    ("import", "line_1025_read_before_it_is_refused"),
+    ("import", "room_judged_before_lines"),
+    ("import", "pairs_by_week_then_id"),
+    ("import", "outcomes_written_though_refused"),
+    ("import", "room_one_too_strict"),
+    ("importer", "settings_with_a_name_taken"),
+    ("importer", "no_settings_and_no_log_is_answered"),
+    ("importer", "bad_settings_refused_at_once"),
+    ("importer", "no_end_line"),
+    ("importer", "lines_counted_over_all"),
+    ("importer", "settings_judged_before_register"),
+];
+
+/// Without any generated input.
+#[test]
+fn kept_regressions_show_wrong_imports() {
+    for (kind, fault) in BY_REGRESSIONS {
+        let words = ["--program", SECOND, "--kind", kind, "--arg", kind, "--arg", "--fault", "--arg", fault];
+        let (status, said) = run(&[&words[..], &["--seed", "1", "--count", "0"]].concat());
+        assert_eq!(status, Some(1), "{kind} {fault}");
+        assert!(said[1].starts_with("difference at the kept regression "), "{kind} {fault}: {said:?}");
     }
 }
 
@@ -210,7 +252,7 @@ fn the_line_that_differs_is_found() {
 #[test]
 fn the_command_says_what_it_cannot_do() {
     // The words, the input, and how the command's complaint begins.
-    let vectors: [(&[&str], &[u8], &str); 8] = [
+    let vectors: [(&[&str], &[u8], &str); 12] = [
         (&[], b"", "usage:"),
         (&["loook"], b"", "usage:"),
         (&["good"], b"x\n", "line 1: word is x"),
@@ -219,6 +261,10 @@ fn the_command_says_what_it_cannot_do() {
         (&["generate", "x", "2", "good"], b"", "SEED is x"),
         (&["differ", "--program", "x", "--seed", "1"], b"", "usage:"),
         (&["lookup", "--fault", "none"], b"", "no fault none"),
+        (&["import", "--fault", "none"], b"", "no fault none"),
+        (&["importer", "--fault", "week_rounded_up"], b"", "no fault week_rounded_up"),
+        (&["good", "--fault", "none"], b"", "usage:"),
+        (&["generate", "1", "2", "importer"], b"", "several inputs of kind importer need --to DIRECTORY"),
     ];
     for (words, input, why) in vectors {
         let output = second(words, input);

@@ -5,15 +5,21 @@ use std::collections::{BTreeMap, BTreeSet};
 use second::build::{build, lines, register_names};
 use second::faults::FAULTS;
 use second::features::{control, features};
-use second::frames::{read_end, read_name, read_query, read_refused, read_row};
+use second::frames::{
+    read_end, read_import_end, read_import_refused, read_log, read_name, read_outcome, read_pair, read_query,
+    read_refused, read_row,
+};
 use second::generate::lines::DAMAGES;
 use second::generate::{input, words};
 use second::good::{good, good_but, CONDITIONS};
+use second::import::{import, log_line, log_lines, week_of, Outcomes, Pairs, Settings};
+use second::import_faults::{IMPORTER_FAULTS, IMPORT_FAULTS};
+use second::importer::{importer, settings_of, three_parts};
 use second::index::{good_index, list_for};
 use second::listed::{features_of_index, similarity};
 use second::lookup::{lookup, parts};
 use second::measures::{least_count, Measure, Threshold};
-use second::protocol::Kind;
+use second::protocol::{import_answer, Kind};
 use second::random::Random;
 
 const SEED: u64 = 20;
@@ -69,6 +75,9 @@ fn every_number_comes_up() {
     assert_eq!(numbers(Kind::Search, 1500), set(&[0, 1, 2, 3, 4, 5, 6, 7, 8, 12]));
     assert_eq!(numbers(Kind::Frames, 1500), set(&[0, 2, 8, 11]));
     assert_eq!(numbers(Kind::Sweep, 1500), set(&[0, 1]));
+    assert_eq!(numbers(Kind::Import, 1500), set(&[0, 8, 10, 11]));
+    assert_eq!(numbers(Kind::LogFrames, 1500), set(&[0, 2, 8, 11]));
+    assert_eq!(numbers(Kind::ImportFrames, 1500), set(&[0, 8, 11]));
 }
 
 /// Lists that are there, lists that are not, and features beyond 32 bits of which the low 32 have a list.
@@ -116,12 +125,17 @@ fn a_sweep_changes_every_word() {
 #[test]
 fn damage_makes_a_line_malformed() {
     type Reader = fn(&[u8]) -> u8;
-    let whole: [(&[u8], Reader); 5] = [
+    let whole: [(&[u8], Reader); 10] = [
         (b"4E000A044C414E45\n", |line| read_name(line, &mut [0; 255]).number),
         (b"51010008000D0000000F044C414E45\n", |line| read_query(line, &mut [0; 255]).number),
         (b"52000A0606\n", |line| read_row(line).number),
         (b"4500030000000F0008000D\n", |line| read_end(line).number),
         (b"58070000000E\n", |line| read_refused(line).number),
+        (b"4C0007002D044C414E45\n", |line| read_log(line, &mut [0; 255]).number),
+        (b"4F01000A\n", |line| read_outcome(line).number),
+        (b"50000A0001000000870003\n", |line| read_pair(line).number),
+        (b"5A00060002\n", |line| read_import_end(line).number),
+        (b"59030B0002\n", |line| read_import_refused(line).number),
     ];
     for (line, read) in whole {
         assert_eq!(read(line), 0);
@@ -188,18 +202,23 @@ fn generated_words_show_every_condition() {
 /// Each fault is found out within this many inputs.
 const WITHIN: u64 = 4000;
 
-#[test]
-fn generated_inputs_show_every_fault() {
-    let mut left: Vec<_> = FAULTS.to_vec();
+/// Sees that each of some faults gives another output than the right one for some input of a kind.
+fn shown<F: Copy>(
+    kind: Kind,
+    faults: &[(&'static str, F)],
+    right: impl Fn(&[u8]) -> Vec<u8>,
+    wrong: impl Fn(F, &[u8]) -> Vec<u8>,
+) {
+    let mut left: Vec<_> = faults.to_vec();
     let mut found: BTreeMap<&str, u64> = BTreeMap::new();
     for at in 0..WITHIN {
         if left.is_empty() {
             break;
         }
-        let input = input(Kind::Lookup, SEED, at);
-        let right = lookup(&input);
-        left.retain(|(name, wrong)| {
-            let same = wrong(&input) == right;
+        let input = input(kind, SEED, at);
+        let right = right(&input);
+        left.retain(|(name, fault)| {
+            let same = wrong(*fault, &input) == right;
             if !same {
                 found.insert(name, at);
             }
@@ -208,6 +227,24 @@ fn generated_inputs_show_every_fault() {
     }
     let missed: Vec<&str> = left.iter().map(|(name, _)| *name).collect();
     assert!(missed.is_empty(), "not found within {WITHIN}: {missed:?}; found: {found:?}");
+}
+
+#[test]
+fn generated_inputs_show_every_fault() {
+    shown(Kind::Lookup, &FAULTS, lookup, |wrong, input| wrong(input));
+}
+
+#[test]
+fn generated_inputs_show_every_wrong_import() {
+    let right = |input: &[u8]| import_answer(input, import).unwrap();
+    shown(Kind::Import, &IMPORT_FAULTS, right, |wrong, input| {
+        import_answer(input, |log, s, words, o, p| wrong.import(log, s, words, o, p)).unwrap()
+    });
+}
+
+#[test]
+fn generated_inputs_show_every_wrong_importer() {
+    shown(Kind::Importer, &IMPORTER_FAULTS, importer, |wrong, input| wrong(input));
 }
 
 /// The cases that comparisons of the program need, each with how often it came up.
@@ -386,5 +423,329 @@ fn generated_inputs_hold_every_case() {
     }
     for what in NEEDED {
         assert!(tally.0.get(what).copied().unwrap_or(0) >= 3, "{what}: too seldom in {:#?}", tally.0);
+    }
+}
+
+/// An input of the protocol `import`, taken apart.
+struct ImportCase {
+    settings: Settings,
+    lines: usize,
+    pairs: usize,
+    log: Vec<u8>,
+    words: Vec<u32>,
+}
+
+fn import_case(at: u64) -> ImportCase {
+    let line = String::from_utf8(input(Kind::Import, SEED, at)).unwrap();
+    let words: Vec<&str> = line.split_whitespace().collect();
+    let number = |at: usize| words[at].parse::<u32>().unwrap();
+    let digits = if words[6] == "-" { "" } else { words[6] };
+    ImportCase {
+        settings: Settings { measure: number(0), p: number(1), q: number(2), allowance: number(3) },
+        lines: number(4) as usize,
+        pairs: number(5) as usize,
+        log: (0..digits.len()).step_by(2).map(|at| u8::from_str_radix(&digits[at..at + 2], 16).unwrap()).collect(),
+        words: words[7..].iter().map(|word| word.parse().unwrap()).collect(),
+    }
+}
+
+/// Counts what a log shows, whatever it is imported with.
+fn tally_log(tally: &mut Tally, log: &[u8]) {
+    let all = lines(log);
+    match all.len() {
+        0 => tally.count("no lines"),
+        1023..=1026 => tally.count(format!("{} lines", all.len())),
+        _ => (),
+    }
+    if log.last().is_some_and(|last| *last != b'\n') {
+        tally.count("no last line feed");
+    }
+    let malformed = |at: usize| all.get(at).is_some_and(|line| log_line(line).is_none());
+    let first = (0..all.len()).find(|at| malformed(*at));
+    match first {
+        Some(0..=1021) if all.len() > 1024 => tally.count("malformed far before line 1,025"),
+        Some(1023) if all.len() > 1024 => tally.count("malformed right before line 1,025"),
+        Some(1024) => tally.count("line 1,025 malformed"),
+        Some(1025) => tally.count("line 1,026 malformed"),
+        _ => (),
+    }
+    for line in all.iter().filter_map(|line| log_line(line)) {
+        match line.reading {
+            None => tally.count("a missing reading"),
+            Some(0 | 1 | 65_534) => tally.count(format!("a reading of {}", line.reading.unwrap_or(0))),
+            _ => (),
+        }
+        match line.day {
+            0 | 6 | 7 | 13 | 65_535 => tally.count(format!("day {}", line.day)),
+            _ => (),
+        }
+    }
+}
+
+/// Counts what the outcomes and pairs of an answered log show.
+fn tally_outcomes(tally: &mut Tally, log: &[u8], settings: &Settings, words: &[u32]) {
+    let (mut outcomes, mut pairs) = (Outcomes::lent(1024, 0), Pairs::lent(1024, 0));
+    let imported = import(log, settings, words, &mut outcomes, &mut pairs);
+    let cases: BTreeSet<u32> = outcomes.cases[..imported.lines].iter().copied().collect();
+    for case in &cases {
+        tally.count(format!("case {case}"));
+    }
+    if cases.len() == 4 {
+        tally.count("all four cases in one log");
+    }
+    for at in (0..imported.lines).filter(|at| outcomes.cases[*at] == 4) {
+        tally.count(format!("a line refused with {}", outcomes.values[at]));
+    }
+    let numbers: BTreeSet<u32> =
+        (0..imported.lines).filter(|at| outcomes.cases[*at] == 4).map(|at| outcomes.values[at]).collect();
+    if numbers.len() > 1 {
+        tally.count("lines refused with different numbers");
+    }
+    for at in 0..imported.pairs {
+        if pairs.counts[at] == 0 {
+            tally.count("a pair without a reading");
+        } else if pairs.sums[at] == 0 {
+            tally.count("a pair of readings of 0");
+        }
+        if pairs.sums[at] > 65_535 {
+            tally.count("a sum beyond 16 bits");
+        }
+    }
+    let read = log_lines(log).unwrap_or_default();
+    let of_first = |at: &usize| {
+        let week = week_of(read[*at].day);
+        outcomes.cases[*at] == 1 && (outcomes.values[*at], week) == (pairs.ids[0], pairs.weeks[0])
+    };
+    let in_first = if imported.pairs > 0 { (0..imported.lines).filter(of_first).count() } else { 0 };
+    if in_first > 1 && imported.pairs > 1 {
+        tally.count("a pair of several lines among others");
+    }
+    if imported.pairs == 1024 {
+        tally.count("1,024 pairs");
+    }
+}
+
+const NEEDED_OF_IMPORT: [&str; 48] = [
+    "no lines",
+    "1023 lines",
+    "1024 lines",
+    "1025 lines",
+    "1026 lines",
+    "no last line feed",
+    "malformed far before line 1,025",
+    "malformed right before line 1,025",
+    "line 1,025 malformed",
+    "line 1,026 malformed",
+    "a missing reading",
+    "a reading of 0",
+    "a reading of 1",
+    "a reading of 65534",
+    "day 0",
+    "day 6",
+    "day 7",
+    "day 13",
+    "day 65535",
+    "case 1",
+    "case 2",
+    "case 3",
+    "case 4",
+    "all four cases in one log",
+    "a line refused with 1",
+    "a line refused with 2",
+    "a line refused with 3",
+    "a line refused with 4",
+    "a line refused with 5",
+    "a line refused with 6",
+    "a line refused with 7",
+    "a line refused with 12",
+    "lines refused with different numbers",
+    "a pair without a reading",
+    "a pair of readings of 0",
+    "a sum beyond 16 bits",
+    "a pair of several lines among others",
+    "1,024 pairs",
+    "lines just fit, pairs just fit",
+    "one line too many, pairs just fit",
+    "lines just fit, one pair too many",
+    "more room than needed",
+    "8 before a bad line is 11",
+    "a damaged index",
+    "features of no name",
+    "words beyond the total",
+    "256 names",
+    "a line that lists 256 names",
+];
+
+#[test]
+fn generated_imports_hold_every_case() {
+    let mut tally = Tally::default();
+    for at in 0..3000 {
+        let case = import_case(at);
+        tally_log(&mut tally, &case.log);
+        tally_outcomes(&mut tally, &case.log, &case.settings, &case.words);
+        tally_index(&mut tally, &case);
+        let plenty = (&mut Outcomes::lent(1024, 0), &mut Pairs::lent(1024, 0));
+        let whole = import(&case.log, &case.settings, &case.words, plenty.0, plenty.1);
+        if whole.number == 11 && lines(&case.log).len() > case.lines {
+            tally.count("8 before a bad line is 11");
+        }
+        if whole.number != 0 || whole.pairs == 0 {
+            continue;
+        }
+        if (case.lines, case.pairs) == (whole.lines, whole.pairs) {
+            tally.count("lines just fit, pairs just fit");
+        } else if (case.lines + 1, case.pairs) == (whole.lines, whole.pairs) {
+            tally.count("one line too many, pairs just fit");
+        } else if (case.lines, case.pairs + 1) == (whole.lines, whole.pairs) {
+            tally.count("lines just fit, one pair too many");
+        } else if case.lines > whole.lines && case.pairs > whole.pairs {
+            tally.count("more room than needed");
+        }
+    }
+    for what in NEEDED_OF_IMPORT {
+        assert!(tally.0.get(what).copied().unwrap_or(0) >= 3, "{what}: too seldom in {:#?}", tally.0);
+    }
+}
+
+fn tally_index(tally: &mut Tally, case: &ImportCase) {
+    let Some(index) = second::index::good_index(&case.words) else { return tally.count("a damaged index") };
+    // The low byte of a name's feature is a number from 1 on.
+    if index.rows.iter().any(|row| row.feature % 256 == 0) {
+        tally.count("features of no name");
+    }
+    if index.start + index.postings.len() < case.words.len() {
+        tally.count("words beyond the total");
+    }
+    if index.names.len() == 256 {
+        tally.count("256 names");
+        let query = |name: Vec<u8>| second::search::Query {
+            measure: case.settings.measure,
+            p: case.settings.p,
+            q: case.settings.q,
+            allowance: case.settings.allowance,
+            name,
+        };
+        let mut rows = [second::search::AnswerRow { id: 0, shared: 0, size: 0 }; 256];
+        for line in lines(&case.log).into_iter().filter_map(log_line) {
+            if second::search::search(&case.words, &query(line.name), &mut rows).rows == 256 {
+                tally.count("a line that lists 256 names");
+            }
+        }
+    }
+}
+
+const NEEDED_OF_IMPORTER: [&str; 52] = [
+    "668438 bytes",
+    "668439 bytes",
+    "668440 bytes",
+    "more bytes",
+    "answered beyond 65,536 bytes",
+    "an index beyond 16,384 words",
+    "an index beyond 80,000 words",
+    "part 0, number 8",
+    "part 1, number 1",
+    "part 1, number 2",
+    "part 1, number 3",
+    "part 1, number 9",
+    "part 1, number 10",
+    "part 1, number 11",
+    "part 1, number 12",
+    "part 2, number 11",
+    "part 3, number 10",
+    "part 3, number 11",
+    "no settings line",
+    "settings with a name",
+    "bad settings and a bad log",
+    "a bad register and bad settings",
+    "a bad measure",
+    "a bad threshold",
+    "no register",
+    "256 names",
+    "no lines",
+    "1023 lines",
+    "1024 lines",
+    "1025 lines",
+    "1026 lines",
+    "no last line feed",
+    "malformed right before line 1,025",
+    "line 1,025 malformed",
+    "a missing reading",
+    "a reading of 0",
+    "a reading of 1",
+    "a reading of 65534",
+    "day 0",
+    "day 6",
+    "day 7",
+    "day 65535",
+    "case 1",
+    "case 2",
+    "case 3",
+    "case 4",
+    "all four cases in one log",
+    "a line refused with 7",
+    "a pair without a reading",
+    "a pair of readings of 0",
+    "a pair of several lines among others",
+    "1,024 pairs",
+];
+
+fn tally_importer(tally: &mut Tally, input: &[u8]) {
+    match input.len() {
+        668_438..=668_440 => tally.count(format!("{} bytes", input.len())),
+        668_441.. => tally.count("more bytes"),
+        _ => (),
+    }
+    let refused = read_import_refused(&importer(input));
+    let (register, line, log) = three_parts(input);
+    if refused.number == 0 {
+        tally.count(format!("part {}, number {}", refused.part, refused.refusal));
+        match refused.part {
+            1 if settings_of(line).is_none() => tally.count("a bad register and bad settings"),
+            2 if line.is_empty() => tally.count("no settings line"),
+            2 if read_query(line, &mut [0; 255]).number == 0 => tally.count("settings with a name"),
+            _ => (),
+        }
+        if refused.part == 2 && log_lines(log).is_err() {
+            tally.count("bad settings and a bad log");
+        }
+        if refused.part == 3 {
+            tally_log(tally, log);
+        }
+        return;
+    }
+    let names = register_names(register).unwrap();
+    match names.len() {
+        0 => tally.count("no register"),
+        256 => tally.count("256 names"),
+        _ => (),
+    }
+    let mut words = vec![0; 84_739];
+    assert_eq!(build(register, &mut words).number, 0);
+    match 3 + words[0] + 4 * words[1] + words[2] {
+        80_001.. => tally.count("an index beyond 80,000 words"),
+        16_385.. => tally.count("an index beyond 16,384 words"),
+        _ => (),
+    }
+    if input.len() > 65_536 {
+        tally.count("answered beyond 65,536 bytes");
+    }
+    let settings = settings_of(line).unwrap();
+    if Measure::of(settings.measure).is_err() {
+        tally.count("a bad measure");
+    } else if Threshold::of(settings.p, settings.q).is_err() {
+        tally.count("a bad threshold");
+    }
+    tally_log(tally, log);
+    tally_outcomes(tally, log, &settings, &words);
+}
+
+#[test]
+fn generated_importer_inputs_hold_every_case() {
+    let mut tally = Tally::default();
+    for at in 0..4000 {
+        tally_importer(&mut tally, &input(Kind::Importer, SEED, at));
+    }
+    for what in NEEDED_OF_IMPORTER {
+        assert!(tally.0.get(what).copied().unwrap_or(0) >= 2, "{what}: too seldom in {:#?}", tally.0);
     }
 }

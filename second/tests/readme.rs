@@ -23,7 +23,7 @@ fn examples_give_what_is_printed() {
             last.1 += &format!("{output}\n");
         }
     }
-    assert!(examples.len() >= 16);
+    assert!(examples.len() >= 20);
     for (command, output) in examples {
         let kind = Kind::of(command.rsplit(' ').next().unwrap()).unwrap();
         assert_eq!(String::from_utf8(kind.answer(&input(command)).unwrap()).unwrap(), output, "{command}");
@@ -31,7 +31,7 @@ fn examples_give_what_is_printed() {
 }
 
 /// What does not follow a protocol, and what is said of it.
-const REFUSED: [(Kind, &str, &str); 9] = [
+const REFUSED: [(Kind, &str, &str); 12] = [
     (Kind::Features, "4C4\n", "line 1: name is 4C4"),
     (Kind::Features, "4C 41\n", "line 1: 41 is one too many"),
     (Kind::Features, "4C\n\n", "line 2: no name"),
@@ -39,8 +39,11 @@ const REFUSED: [(Kind, &str, &str); 9] = [
     (Kind::Good, "1 -1\n", "line 1: word is -1"),
     (Kind::Likeness, "1 8 13 6 7\n", "line 1: no c"),
     (Kind::Frames, "look\n", "line 1: look is neither read nor write"),
-    (Kind::Frames, "read 4F 0 -\n", "line 1: no such kind"),
+    (Kind::Frames, "read 4D 0 -\n", "line 1: no such kind"),
     (Kind::Frames, "write 52 12 65536 6 6\n", "line 1: id is 65536"),
+    (Kind::LogFrames, "write 4C 12 65536 6 6\n", "line 1: day is 65536"),
+    (Kind::Import, "1 1 1 6 0 -\n", "line 1: pairs is -"),
+    (Kind::Import, "1 1 1 6 0 0\n", "line 1: no log"),
 ];
 
 #[test]

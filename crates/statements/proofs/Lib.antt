@@ -8,3 +8,4 @@ pub mod Beyond
 pub mod Frames
 pub mod Program
 pub mod Former
+pub mod LogFrames

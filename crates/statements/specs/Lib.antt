@@ -2,3 +2,4 @@ pub mod Figures
 pub mod Demands
 pub mod Program
 pub mod Former
+pub mod LogFrames

@@ -3,7 +3,7 @@
 -- reading and a refused writing keep the buffer is `buffer-kept` and `out-kept` of the crate fields.
 -- Assumes nothing.
 use mathlib.Core.Path.{_≡_, refl, ap}
-use mathlib.Core.Bool.{Bool, true, false, cond}
+use mathlib.Core.Bool.{Bool, true, false, cond, _&&_}
 use mathlib.Core.List.{List}
 use Prim.Native.Nat.{ℕ, _+_, _≤_}
 use native.Mathlib.Omega.{arith}
@@ -27,7 +27,13 @@ use Rattle.rows.specs.declared.Row.{Row}
 use Rattle.rows.specs.Rows.{rowsAfter}
 use Rattle.rows.proofs.Laws.{rows-refused}
 use Rattle.search.proofs.Outcomes.{refused-gives}
-use Rattle.surface.specs.Flat.{listAnswer, searchAnswer, writeAnswer}
+use Rattle.lines.specs.Lines.{linesOf}
+use Rattle.weeks.specs.Pairs.{pairsOf, Columns as Pairs, roomOf as pairRoom}
+use Rattle.importer.specs.declared.Settings.{Settings}
+use Rattle.importer.specs.declared.Imported.{Imported}
+use Rattle.importer.specs.Import.{verdictOn, Outcomes, outcomeRoom, entriesIn, importedOf, outcomesAfter, pairsAfter}
+use Rattle.importer.proofs.Wholes.{wholes}
+use Rattle.surface.specs.Flat.{listAnswer, searchAnswer, importAnswer, writeAnswer}
 
 -- a list lies within the words, whatever they are
 pub list-within : (w : List ℕ) (y f : ℕ) → listAnswer (spanFor w y f) .start + listAnswer (spanFor w y f) .count ≤ length w
@@ -74,6 +80,48 @@ columns-kept query m p q allowance w c n =
 pub records-kept : (query : List ℕ) (m p q allowance : ℕ) (w : List ℕ) (rows : List Row)
     → (searchAnswer (searchOf query m p q allowance w (length rows)) .number ≡ 0 → ⊥) → rowsAfter query m p q allowance w rows ≡ rows
 records-kept query m p q allowance w rows n = rows-refused query m p q allowance w rows n
+
+-- the outcomes and the pairs of an import lie within their rooms
+module _ (log words : List ℕ) (s : Settings) (lines pairs : ℕ) where
+  -- the import by its three tests
+  abbrev imported : Bool → Bool → Bool → Imported
+  imported good lines-fit pairs-fit =
+      cond good
+      (cond (lines-fit && pairs-fit)
+      (record { number = 0; line = 0; lines = length (linesOf log); pairs = length (pairsOf (entriesIn log words s)) })
+      (record { number = 8; line = 0; lines = 0; pairs = 0 }))
+      (record { number = verdictOn log .number; line = verdictOn log .line; lines = 0; pairs = 0 })
+
+  pub imported-within : let r = importAnswer (importedOf log words s lines pairs) in (r .lines ≤ lines) × (r .pairs ≤ pairs)
+  unfolding importedOf
+  imported-within =
+      by-test (eqb (verdictOn log .number) 0) (leb (length (linesOf log)) lines) (leb (length (pairsOf (entriesIn log words s))) pairs) refl refl
+    where
+      by-test : (a b c : Bool) → leb (length (linesOf log)) lines ≡ b → leb (length (pairsOf (entriesIn log words s))) pairs ≡ c
+          → (imported a b c .lines ≤ lines) × (imported a b c .pairs ≤ pairs)
+      by-test false b c e f = (omega arith, omega arith)
+      by-test true false c e f = (omega arith, omega arith)
+      by-test true true false e f = (omega arith, omega arith)
+      by-test true true true e f = (leb-true _ _ e, leb-true _ _ f)
+
+-- and so within each column
+pub outcomes-within : (log words : List ℕ) (s : Settings) (o : Outcomes) (c : Pairs)
+    → let n = importAnswer (importedOf log words s (outcomeRoom o) (pairRoom c)) .lines in
+    (n ≤ length (o .cases)) × (n ≤ length (o .values))
+outcomes-within log words s o c = let h = imported-within log words s (outcomeRoom o) (pairRoom c) .0 in (omega arith, omega arith)
+
+pub pairs-within : (log words : List ℕ) (s : Settings) (o : Outcomes) (c : Pairs)
+    → let n = importAnswer (importedOf log words s (outcomeRoom o) (pairRoom c)) .pairs in
+    (n ≤ length (c .ids)) × (n ≤ length (c .weeks)) × (n ≤ length (c .sums)) × (n ≤ length (c .counts))
+pairs-within log words s o c =
+    let h = imported-within log words s (outcomeRoom o) (pairRoom c) .1 in
+    (omega arith, omega arith, omega arith, omega arith)
+
+-- a refused import keeps every column
+pub import-kept : (log words : List ℕ) (s : Settings) (o : Outcomes) (c : Pairs)
+    → (importAnswer (importedOf log words s (outcomeRoom o) (pairRoom c)) .number ≡ 0 → ⊥)
+    → (outcomesAfter log words s o c ≡ o) × (pairsAfter log words s o c ≡ c)
+import-kept log words s o c n = wholes log words s o c .kept n
 
 -- a name that was read lies within its buffer
 pub name-within : (y : Layout) (line : List ℕ) (room : ℕ) → readOf y line room .len ≤ room

@@ -1,5 +1,5 @@
 -- The answers of the layers as the flat structs that C can take: every value under its name, 0 where a refusal has none.
--- Cited by every contract of the crate. What the answers are is in the specs of register, index, search, layouts and frames.
+-- Cited by every contract of the crate. What the answers are is in the specs of register, index, search, importer, fields, frames and log_frames.
 -- Assumes nothing.
 use Prim.Native.Nat.{ℕ}
 use lib.ListN.{getD}
@@ -9,15 +9,18 @@ use Rattle.lists.specs.Part.{Span}
 use Rattle.register.specs.declared.Built.{Built}
 use Rattle.search.specs.declared.Answer.{Answer}
 use Rattle.search.specs.Answers.{numberIn, rowsIn, touchesIn, thresholdP, thresholdQ}
+use Rattle.importer.specs.declared.Imported.{Imported}
 use Rattle.surface.specs.declared.BuildAnswer.{BuildAnswer}
 use Rattle.surface.specs.declared.ListAnswer.{ListAnswer}
 use Rattle.surface.specs.declared.SearchAnswer.{SearchAnswer}
+use Rattle.surface.specs.declared.ImportAnswer.{ImportAnswer}
 use Rattle.surface.specs.declared.WriteAnswer.{WriteAnswer}
 use Rattle.surface.specs.declared.NameAnswer.{NameAnswer}
 use Rattle.surface.specs.declared.QueryAnswer.{QueryAnswer}
 use Rattle.surface.specs.declared.RowAnswer.{RowAnswer}
 use Rattle.surface.specs.declared.EndAnswer.{EndAnswer}
 use Rattle.surface.specs.declared.RefusalAnswer.{RefusalAnswer}
+use Rattle.surface.specs.declared.LogAnswer.{LogAnswer}
 
 -- a build: its number and its line
 abbrev pub buildAnswer : Built → BuildAnswer
@@ -30,6 +33,10 @@ listAnswer s = record { start = s .start; count = s .count }
 -- a search: the number and the values that the rule sets out for each answer
 abbrev pub searchAnswer : Answer → SearchAnswer
 searchAnswer a = record { number = numberIn a; rows = rowsIn a; touches = touchesIn a; p = thresholdP a; q = thresholdQ a }
+
+-- an import: its number and line, and how many outcomes and pairs it has written
+abbrev pub importAnswer : Imported → ImportAnswer
+importAnswer i = record { number = i .number; line = i .line; lines = i .lines; pairs = i .pairs }
 
 -- a writing: its number, and how many bytes were written
 abbrev pub writeAnswer : Written → WriteAnswer
@@ -53,3 +60,6 @@ endAnswer r =
 
 abbrev pub refusalAnswer : Reading → RefusalAnswer
 refusalAnswer r = record { number = r .number; refusal = getD (r .fields) 0 0; touches = getD (r .fields) 1 0 }
+
+abbrev pub logAnswer : Reading → LogAnswer
+logAnswer r = record { number = r .number; day = getD (r .fields) 0 0; reading = getD (r .fields) 1 0; len = r .len }

@@ -10,7 +10,10 @@ ghost use Rattle.lists.specs.Lists.{spanFor};
 ghost use Rattle.register.specs.Build.{builtOf, wordsAfter};
 ghost use Rattle.search.specs.Answers.{searchOf, asColumns, roomOf, columnsAfter};
 ghost use Rattle.rows.specs.Rows.{rowsAfter};
-ghost use Rattle.surface.specs.Flat.{buildAnswer, listAnswer, searchAnswer, writeAnswer, nameAnswer, queryAnswer, rowAnswer, endAnswer, refusalAnswer};
+ghost use Rattle.log_frames.specs.Frames.{logFrame};
+ghost use Rattle.weeks.specs.Pairs.{asColumns as asPairs, roomOf as pairRoom};
+ghost use Rattle.importer.specs.Import.{settings, asOutcomes, outcomeRoom, importedOf, outcomesAfter, pairsAfter};
+ghost use Rattle.surface.specs.Flat.{buildAnswer, listAnswer, searchAnswer, importAnswer, writeAnswer, nameAnswer, queryAnswer, rowAnswer, endAnswer, refusalAnswer, logAnswer};
 use rows::Row;
 use search::Answer;
 
@@ -35,6 +38,14 @@ pub struct SearchAnswer {
     pub touches: u32,
     pub p: u16,
     pub q: u16,
+}
+
+#[repr(C)]
+pub struct ImportAnswer {
+    pub number: u8,
+    pub line: u32,
+    pub lines: u32,
+    pub pairs: u32,
 }
 
 #[repr(C)]
@@ -83,6 +94,14 @@ pub struct RefusalAnswer {
     pub number: u8,
     pub refusal: u8,
     pub touches: u32,
+}
+
+#[repr(C)]
+pub struct LogAnswer {
+    pub number: u8,
+    pub day: u16,
+    pub reading: u16,
+    pub len: usize,
 }
 
 // ---- the index
@@ -183,6 +202,50 @@ pub extern "C" fn rushgirdle_search_rows(
     ensures { λ r. ⌜ (r ≡ searchAnswer (searchOf (now (query .entry)) measure p q allowance (now (words .entry)) (length (now (rows .entry))))) × (now (rows .exit) ≡ rowsAfter (now (query .entry)) measure p q allowance (now (words .entry)) (now (rows .entry))) ⌝ }
 {
     flat(rows::search_rows(query, measure, p, q, allowance, words, rows))
+}
+
+// ---- the import
+
+// Imports a log. Outcome k is place k of the columns of cases and values, pair k place k of the other four.
+#[no_mangle]
+pub extern "C" fn rushgirdle_import(
+    log: &[u8],
+    measure: u8,
+    p: u16,
+    q: u16,
+    allowance: u32,
+    words: &[u32],
+    cases: &mut [u32],
+    values: &mut [u32],
+    ids: &mut [u32],
+    weeks: &mut [u32],
+    sums: &mut [u32],
+    counts: &mut [u32],
+) -> ImportAnswer
+    ensures { λ r. ⌜ r ≡ importAnswer (importedOf (now (log .entry)) (now (words .entry)) (settings measure p q allowance) (outcomeRoom (asOutcomes (now (cases .entry)) (now (values .entry)))) (pairRoom (asPairs (now (ids .entry)) (now (weeks .entry)) (now (sums .entry)) (now (counts .entry))))) ⌝ }
+    ensures { λ _. ⌜ asOutcomes (now (cases .exit)) (now (values .exit)) ≡ outcomesAfter (now (log .entry)) (now (words .entry)) (settings measure p q allowance) (asOutcomes (now (cases .entry)) (now (values .entry))) (asPairs (now (ids .entry)) (now (weeks .entry)) (now (sums .entry)) (now (counts .entry))) ⌝ }
+    ensures { λ _. ⌜ asPairs (now (ids .exit)) (now (weeks .exit)) (now (sums .exit)) (now (counts .exit)) ≡ pairsAfter (now (log .entry)) (now (words .entry)) (settings measure p q allowance) (asOutcomes (now (cases .entry)) (now (values .entry))) (asPairs (now (ids .entry)) (now (weeks .entry)) (now (sums .entry)) (now (counts .entry))) ⌝ }
+{
+    let i = importer::import(
+        log,
+        measure,
+        p,
+        q,
+        allowance,
+        words,
+        cases,
+        values,
+        ids,
+        weeks,
+        sums,
+        counts,
+    );
+    ImportAnswer {
+        number: i.number,
+        line: i.line,
+        lines: i.lines,
+        pairs: i.pairs,
+    }
 }
 
 // ---- the frames
@@ -289,6 +352,21 @@ pub extern "C" fn rushgirdle_read_refusal(line: &[u8]) -> RefusalAnswer
     }
 }
 
+// Reads a 4C line, and puts the typed name at the start of the buffer.
+#[no_mangle]
+pub extern "C" fn rushgirdle_read_log(line: &[u8], name: &mut [u8]) -> LogAnswer
+    ensures { λ r. ⌜ r ≡ logAnswer (readOf logFrame (now (line .entry)) (length (now (name .entry)))) ⌝ }
+    ensures { λ _. ⌜ now (name .exit) ≡ bufferOf logFrame (now (line .entry)) (now (name .entry)) ⌝ }
+{
+    let r = log_frames::read_log(line, name);
+    LogAnswer {
+        number: r.number,
+        day: r.day,
+        reading: r.reading,
+        len: r.len,
+    }
+}
+
 // Writes a 4E line.
 #[no_mangle]
 pub extern "C" fn rushgirdle_write_name(out: &mut [u8], id: u16, name: &[u8]) -> WriteAnswer
@@ -361,6 +439,24 @@ pub extern "C" fn rushgirdle_write_refusal(out: &mut [u8], number: u8, touches: 
     ensures { λ _. ⌜ now (out .exit) ≡ outOf refusalFrame (number ∷ touches ∷ []) [] (now (out .entry)) ⌝ }
 {
     let w = frames::write_refusal(out, number, touches);
+    WriteAnswer {
+        number: w.number,
+        len: w.len,
+    }
+}
+
+// Writes a 4C line.
+#[no_mangle]
+pub extern "C" fn rushgirdle_write_log(
+    out: &mut [u8],
+    day: u16,
+    reading: u16,
+    name: &[u8],
+) -> WriteAnswer
+    ensures { λ r. ⌜ r ≡ writeAnswer (writtenOf logFrame (day ∷ reading ∷ []) (now (name .entry)) (length (now (out .entry)))) ⌝ }
+    ensures { λ _. ⌜ now (out .exit) ≡ outOf logFrame (day ∷ reading ∷ []) (now (name .entry)) (now (out .entry)) ⌝ }
+{
+    let w = log_frames::write_log(out, day, reading, name);
     WriteAnswer {
         number: w.number,
         len: w.len,

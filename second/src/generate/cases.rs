@@ -1,7 +1,7 @@
 //! One input of each kind.
 
 use crate::build::{build as build_words, words_of_names, Registered};
-use crate::frames::{self, line_of, KINDS};
+use crate::frames::{self, line_of, IMPORT_KINDS, KINDS};
 use crate::generate::{lines, names, queries, registers, words};
 use crate::index::cut;
 use crate::limits::{INDEX_WORDS, INPUT, NAMES};
@@ -294,9 +294,25 @@ pub fn search(random: &mut Random) -> String {
     [numbers, pairs(&query.name), spaced(&words)].join(" ")
 }
 
-/// A line to read, whole or damaged, or fields to write, with room for all of it, for one byte less, or for more.
+/// A frame of a lookup.
 pub fn frames(random: &mut Random) -> String {
-    let kind = random.pick(&KINDS);
+    frames_of(random, &KINDS, &KINDS)
+}
+
+/// A line of a log; now and then another reader is given it.
+pub fn log_frames(random: &mut Random) -> String {
+    frames_of(random, &[frames::LOG], &[&[frames::LOG][..], &KINDS].concat())
+}
+
+/// A line that an importer writes.
+pub fn import_frames(random: &mut Random) -> String {
+    frames_of(random, &IMPORT_KINDS, &IMPORT_KINDS)
+}
+
+/// A line to read, whole or damaged, or fields to write, with room for all of it, for one byte less, or for more. Now and
+/// then one of the other readers is given the line.
+fn frames_of(random: &mut Random, kinds: &[u8], readers: &[u8]) -> String {
+    let kind = random.pick(kinds);
     let length = match random.below(4) {
         0 => random.pick(&[0, 1, 63, 64, 65, 66, 254, 255]),
         _ => random.below(20),
@@ -309,7 +325,7 @@ pub fn frames(random: &mut Random) -> String {
     if random.once_in(2) {
         writing(random, kind, name)
     } else {
-        reading(random, kind, name)
+        reading(random, kind, name, readers)
     }
 }
 
@@ -327,12 +343,16 @@ fn widths(kind: u8) -> &'static [usize] {
         frames::QUERY => &[1, 2, 2, 4],
         frames::ROW => &[2, 1, 1],
         frames::END => &[2, 4, 2, 2],
+        frames::LOG | frames::IMPORT_END => &[2, 2],
+        frames::OUTCOME => &[1, 2],
+        frames::PAIR => &[2, 2, 4, 2],
+        frames::IMPORT_REFUSED => &[1, 1, 2],
         _ => &[1, 4],
     }
 }
 
 fn has_name(kind: u8) -> bool {
-    kind == frames::NAME || kind == frames::QUERY
+    [frames::NAME, frames::QUERY, frames::LOG].contains(&kind)
 }
 
 /// Room for what is needed, one less, one more, none, or plenty.
@@ -356,7 +376,7 @@ fn writing(random: &mut Random, kind: u8, mut name: Vec<u8>) -> String {
     words.join(" ")
 }
 
-fn reading(random: &mut Random, kind: u8, name: Vec<u8>) -> String {
+fn reading(random: &mut Random, kind: u8, name: Vec<u8>, readers: &[u8]) -> String {
     let mut bytes = vec![kind];
     for width in widths(kind) {
         bytes.extend(&field(random, *width).to_be_bytes()[8 - width..]);
@@ -370,6 +390,6 @@ fn reading(random: &mut Random, kind: u8, name: Vec<u8>) -> String {
         line = lines::damaged(random, &line);
     }
     let room = room(random, name.len());
-    let reader = if random.once_in(8) { random.pick(&KINDS) } else { kind };
+    let reader = if random.once_in(8) { random.pick(readers) } else { kind };
     ["read".to_string(), pairs(&[reader]), room.to_string(), pairs(&line)].join(" ")
 }

@@ -74,11 +74,12 @@ fn digit_too_few(random: &mut Random, line: &[u8]) -> Vec<u8> {
     replaced(line, at, at + 1, b"")
 }
 
-/// The length byte of a 4E or 51 line is one off; of another kind, and of a line that is too short to have one, a byte goes.
+/// The length byte of a 4E, 51 or 4C line is one off; of another kind, and of a line that is too short to have one, a byte goes.
 fn wrong_length(random: &mut Random, line: &[u8]) -> Vec<u8> {
     let at = match &line[..2] {
         b"4E" if line.len() > 8 => 6,
         b"51" if line.len() > 22 => 20,
+        b"4C" if line.len() > 12 => 10,
         _ => return byte_too_few(random, line),
     };
     let pair = std::str::from_utf8(&line[at..at + 2]).ok().and_then(|pair| u8::from_str_radix(pair, 16).ok());

@@ -2,7 +2,9 @@
 //! What is rare in life (a name of 64 bytes, an allowance one below the count) is common here.
 
 mod cases;
+mod imports;
 pub mod lines;
+pub mod logs;
 pub mod names;
 pub mod queries;
 pub mod registers;
@@ -11,7 +13,7 @@ pub mod words;
 use crate::protocol::{spaced, Kind};
 use crate::random::Random;
 
-/// The input number `at` of a kind under a seed: for `lookup` a whole input, for the others one line of the protocol.
+/// The input number `at` of a kind under a seed: for a program a whole input, for the others one line of the protocol.
 pub fn input(kind: Kind, seed: u64, at: u64) -> Vec<u8> {
     let mut random = Random::of(seed, kind as u64, at);
     let make = match kind {
@@ -23,6 +25,10 @@ pub fn input(kind: Kind, seed: u64, at: u64) -> Vec<u8> {
         Kind::Build => cases::build,
         Kind::Search => cases::search,
         Kind::Frames => cases::frames,
+        Kind::Import => imports::import,
+        Kind::Importer => return imports::importer(&mut random),
+        Kind::LogFrames => cases::log_frames,
+        Kind::ImportFrames => cases::import_frames,
         Kind::Sweep => {
             let mut of_index = Random::of(seed, kind as u64, at / words::STRETCH);
             return [spaced(&words::swept(&mut of_index, at % words::STRETCH)).into_bytes(), b"\n".to_vec()].concat();

@@ -22,6 +22,11 @@ pub fn query_line(measure: u8, p: u16, q: u16, allowance: u32, name: &[u8]) -> V
     format!("51{measure:02X}{p:04X}{q:04X}{allowance:08X}{:02X}{}\n", name.len(), hex(name)).into_bytes()
 }
 
+/// A 4C line.
+pub fn log_line(day: u16, reading: u16, name: &[u8]) -> Vec<u8> {
+    format!("4C{day:04X}{reading:04X}{:02X}{}\n", name.len(), hex(name)).into_bytes()
+}
+
 /// The register lines of names under ids 10, 11, ..
 pub fn register(names: &[&str]) -> Vec<u8> {
     (10..).zip(names).flat_map(|(id, name)| name_line(id, name.as_bytes())).collect()

@@ -1,0 +1,10 @@
+pub mod Reached
+pub mod Judging
+pub mod Searching
+pub mod Tables
+pub mod Whole
+pub mod Telling
+pub mod Demands
+pub mod Pairing
+pub mod Wholes
+pub mod Figures

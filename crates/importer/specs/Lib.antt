@@ -1,0 +1,4 @@
+pub mod Import
+pub mod Steps
+pub mod Demands
+pub mod Figures

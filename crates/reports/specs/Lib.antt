@@ -1,0 +1,4 @@
+pub mod Report
+pub mod Tables
+pub mod Demands
+pub mod RoundTrips
