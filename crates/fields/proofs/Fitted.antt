@@ -3,10 +3,10 @@
 use mathlib.Core.Path.{_≡_, refl, sym, ap, ap₂, _∙_}
 use mathlib.Core.Bool.{Bool, true, false, cond}
 use mathlib.Core.List.{List, [], _∷_, _++_, append-nil, append-assoc}
-use Prim.Native.Nat.{ℕ, zero, suc, _+_, _/_, _%_, _≤_, _<_}
+use Prim.Native.Nat.{ℕ, zero, suc, _+_, _-_, _*_, _/_, _%_, _≤_, _<_}
 use native.Mathlib.Omega.{arith}
 use lib.ListN.{length, getD, take, drop, length-append, length-drop, drop-of-length-le}
-use lib.Seq.{drop-drop, take-at, drop-at}
+use lib.Seq.{drop-drop, take-at, drop-at, length-take-le}
 use lib.Dec.{eqb, leb}
 use borrow.Author.Tests.{le-leb, lt-leb, leb-true}
 use borrow.Rule.Slice.PartMut.{putMid}
@@ -96,10 +96,19 @@ out-exact y f out e =
 
 -- ---- a line in its place
 
-pub put-line : (w at k : ℕ) (xs part line : List ℕ) → k ≡ w → part ≡ line → putMid at k xs part ≡ take at xs ++ (line ++ drop (at + w) xs)
+put-line : (w at k : ℕ) (xs part line : List ℕ) → k ≡ w → part ≡ line → putMid at k xs part ≡ take at xs ++ (line ++ drop (at + w) xs)
 put-line w at k xs part line e p =
     ap₂ (λ (t : List ℕ) (n : ℕ). take at xs ++ (t ++ drop n (drop at xs))) p e
     ∙ ap (λ (t : List ℕ). take at xs ++ (line ++ t)) (drop-drop w at xs)
+
+-- the writer of a part, handed place k of places that are w bytes each, where what it writes there is the line
+pub put-at : (w k : ℕ) (xs part line : List ℕ) (written : List ℕ → List ℕ) → w * k + w ≤ length xs → part ≡ written (take ((w * k + w) - w * k) (drop (w * k) xs))
+    → ((room : List ℕ) → length room ≡ w → written room ≡ line) → putMid (w * k) ((w * k + w) - w * k) xs part ≡ take (w * k) xs ++ (line ++ drop (w * k + w) xs)
+put-at w k xs part line written h e f =
+    let n : (w * k + w) - w * k ≡ w = omega arith in
+    let d = length-drop (w * k) xs in
+    let l = length-take-le ((w * k + w) - w * k) (drop (w * k) xs) (omega arith) in
+    put-line w (w * k) ((w * k + w) - w * k) xs part line n (e ∙ f (take ((w * k + w) - w * k) (drop (w * k) xs)) (l ∙ n))
 
 -- after a text that fills the front
 pub put-behind : (text out part line : List ℕ) (n k w : ℕ) → length text ≡ n → k ≡ w → part ≡ line

@@ -8,7 +8,8 @@ use native.Mathlib.Omega.{arith}
 use lib.ListN.{length, take, drop, length-map}
 use lib.Seq.{take-at}
 use lib.Dec.{eqb, leb}
-use borrow.Author.Tests.{le-leb, lt-leb, leb-true, leb-false, eq-eqb, ne-eqb}
+use borrow.Author.Tests.{le-leb, lt-leb, leb-true, leb-false, eq-eqb, ne-eqb, eqb-true, eqb-false}
+use Rattle.laws.proofs.Tests.{and-parts}
 use Rattle.lines.specs.Lines.{linesOf}
 use Rattle.weeks.specs.declared.Paired.{Paired}
 use Rattle.weeks.specs.Pairs.{pairsOf, Columns, roomOf, columnsOf, over, columnsOver, fits, pairedOf, columnsAfter}
@@ -17,6 +18,30 @@ use Rattle.importer.specs.declared.Outcome.{Outcome}
 use Rattle.importer.specs.declared.Imported.{Imported}
 use Rattle.importer.specs.Import.{outcomeOf, caseOf, valueOf, verdictOn, Outcomes, asOutcomes, outcomeRoom, outcomesOver, outcomesIn, entriesIn, fitsIn, importedOf, outcomesAfter, pairsAfter}
 use Rattle.importer.specs.Steps.{JudgedAll, Taken, Imports}
+
+-- ---- by what decides it
+
+-- whatever holds of an answer, of 8 where the lines or the pairs have no room, and of the first line that is refused, holds of an import
+pub imported-cases : (log words : List ℕ) (s : Settings) (lines pairs : ℕ) (P : Imported → Type 0)
+    → (verdictOn log .number ≡ 0 → length (linesOf log) ≤ lines → length (pairsOf (entriesIn log words s)) ≤ pairs
+    → P (record { number = 0; line = 0; lines = length (linesOf log); pairs = length (pairsOf (entriesIn log words s)) }))
+    → (verdictOn log .number ≡ 0 → fitsIn log words s lines pairs ≡ false → P (record { number = 8; line = 0; lines = 0; pairs = 0 }))
+    → ((verdictOn log .number ≡ 0 → ⊥) → P (record { number = verdictOn log .number; line = verdictOn log .line; lines = 0; pairs = 0 }))
+    → P (importedOf log words s lines pairs)
+unfolding importedOf
+imported-cases log words s lines pairs P answered full bad = by (eqb (verdictOn log .number) 0) refl (fitsIn log words s lines pairs) refl
+  where
+    by : (a : Bool) → eqb (verdictOn log .number) 0 ≡ a → (b : Bool) → fitsIn log words s lines pairs ≡ b
+        → P (cond a
+        (cond b
+        (record { number = 0; line = 0; lines = length (linesOf log); pairs = length (pairsOf (entriesIn log words s)) })
+        (record { number = 8; line = 0; lines = 0; pairs = 0 }))
+        (record { number = verdictOn log .number; line = verdictOn log .line; lines = 0; pairs = 0 }))
+    by true e true f =
+        let g = and-parts (leb (length (linesOf log)) lines) (leb (length (pairsOf (entriesIn log words s))) pairs) f in
+        answered (eqb-true (verdictOn log .number) 0 e) (leb-true (length (linesOf log)) lines (g .0)) (leb-true (length (pairsOf (entriesIn log words s))) pairs (g .1))
+    by true e false f = full (eqb-true (verdictOn log .number) 0 e) f
+    by false e b f = bad (eqb-false (verdictOn log .number) 0 e)
 
 module _ (log words : List ℕ) (s : Settings) (o : Outcomes) (c : Columns) where
   -- ---- a line that is refused

@@ -1,15 +1,14 @@
 -- From an import to its lines: a refused one is one line, and the tables of an answered one hold its lines, in order.
 -- Assumes nothing.
 use mathlib.Core.Path.{_≡_, refl, sym, ap, ap₂, subst, _∙_}
-use mathlib.Core.Bool.{Bool, true, false, cond, _&&_}
+use mathlib.Core.Bool.{true, false}
 use mathlib.Core.List.{List, [], _∷_, _++_, map, append-nil, append-assoc}
 use Prim.Native.Nat.{ℕ, min, _+_, _≤_, _<_}
 use native.Mathlib.Omega.{arith}
 use lib.ListN.{length, getD, drop, replicate, length-append, length-map, List·getD-append}
-use lib.Dec.{eqb, leb}
-use borrow.Author.Tests.{leb-true, eq-eqb, ne-eqb, eqb-true, eqb-false}
+use lib.Dec.{eqb}
+use borrow.Author.Tests.{eq-eqb, ne-eqb}
 use Rattle.laws.specs.Lists.{tabulate}
-use Rattle.laws.proofs.Tests.{and-parts}
 use Rattle.laws.proofs.Images.{getD-map-lt, tabulate-of}
 use Rattle.lines.specs.Lines.{linesOf, joined}
 use Rattle.lines.proofs.Cut.{joined-append}
@@ -18,8 +17,9 @@ use Rattle.importer.specs.declared.Settings.{Settings}
 use Rattle.importer.specs.declared.Outcome.{Outcome}
 use Rattle.importer.specs.declared.Outcome.the-variants.{Unresolved}
 use Rattle.importer.specs.declared.Imported.{Imported}
-use Rattle.importer.specs.Import.{caseOf, valueOf, mostLines, outcomeOf, verdictOn, Outcomes, outcomeRoom, outcomesOver, outcomesIn, entriesIn, fitsIn, importedOf, outcomesAfter, pairsAfter}
+use Rattle.importer.specs.Import.{caseOf, valueOf, mostLines, outcomeOf, Outcomes, outcomeRoom, outcomesOver, outcomesIn, entriesIn, importedOf, outcomesAfter, pairsAfter}
 use Rattle.importer.specs.Steps.{Imports}
+use Rattle.importer.proofs.Whole.{imported-cases}
 use Rattle.reports.specs.Report.{outcomeLine, pairLine, endLine, refusalLine, logPart, answerLines, importLines}
 use Rattle.reports.specs.Tables.{outcomeText, outcomeAt, pairText, pairAt, tablesText}
 
@@ -30,25 +30,14 @@ module _ (log words : List ℕ) (s : Settings) (lines pairs : ℕ) where
   pub answered-so : importedOf log words s lines pairs .number ≡ 0
       → (length (linesOf log) ≤ lines) × (length (pairsOf (entriesIn log words s)) ≤ pairs)
       × (importedOf log words s lines pairs ≡ record { number = 0; line = 0; lines = length (linesOf log); pairs = length (pairsOf (entriesIn log words s)) })
-  unfolding importedOf
-  answered-so z = by-verdict (eqb (verdictOn log .number) 0) refl (fitsIn log words s lines pairs) refl z
-    where
-      given : Bool → Bool → Imported
-      given a b =
-          cond a
-          (cond b
-          (record { number = 0; line = 0; lines = length (linesOf log); pairs = length (pairsOf (entriesIn log words s)) })
-          (record { number = 8; line = 0; lines = 0; pairs = 0 }))
-          (record { number = verdictOn log .number; line = verdictOn log .line; lines = 0; pairs = 0 })
-
-      by-verdict : (a : Bool) → eqb (verdictOn log .number) 0 ≡ a → (b : Bool) → fitsIn log words s lines pairs ≡ b → given a b .number ≡ 0
-          → (length (linesOf log) ≤ lines) × (length (pairsOf (entriesIn log words s)) ≤ pairs)
-          × (given a b ≡ record { number = 0; line = 0; lines = length (linesOf log); pairs = length (pairsOf (entriesIn log words s)) })
-      by-verdict true e true f q =
-          let g = and-parts (leb (length (linesOf log)) lines) (leb (length (pairsOf (entriesIn log words s))) pairs) f in
-          (leb-true (length (linesOf log)) lines (g .0), leb-true (length (pairsOf (entriesIn log words s))) pairs (g .1), refl)
-      by-verdict true e false f q = absurd (omega arith)
-      by-verdict false e b f q = absurd (eqb-false (verdictOn log .number) 0 e q)
+  answered-so =
+      imported-cases log words s lines pairs
+      (λ (r : Imported). r .number ≡ 0
+      → (length (linesOf log) ≤ lines) × (length (pairsOf (entriesIn log words s)) ≤ pairs)
+      × (r ≡ record { number = 0; line = 0; lines = length (linesOf log); pairs = length (pairsOf (entriesIn log words s)) }))
+      (λ v a b z. (a, b, refl))
+      (λ v f z. absurd (omega arith))
+      (λ n z. absurd (n z))
 
 -- ---- the tables of outcomes and pairs
 

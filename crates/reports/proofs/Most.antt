@@ -20,10 +20,12 @@ use Rattle.weeks.specs.Pairs.{pairIn, onceOf, asColumns, pairsOf, columnsOf, co
 use Rattle.register.specs.Build.{builtOf}
 use Rattle.answers.specs.Output.{registerOf}
 use Rattle.importer.specs.declared.Settings.{Settings}
+use Rattle.importer.specs.declared.Imported.{Imported}
 use Rattle.importer.specs.Import.{lineCases, judgeLine, Verdict, judgedFrom, verdictOn, mostLines, asOutcomes, outcomesOver, outcomeOf, outcomesIn, entriesIn, importedOf}
 use Rattle.reports.specs.Report.{mostInput, indexWords, longestReport, settingsLine, logOf, indexOf, settled, settingsIn, refusalLine, wholePart, registerPart, settingsPart, logPart, answerLines, importLines, settledLines, reportLines, reportOf}
 use Rattle.importer.proofs.Judging.{judged-bad, judged-good, judged-none, lines-few}
 use Rattle.importer.proofs.Tables.{entries-few}
+use Rattle.importer.proofs.Whole.{imported-cases}
 use Rattle.reports.proofs.Text.{length-refusal, length-tables}
 use Rattle.reports.proofs.Import.{answered-so, tables-lines}
 
@@ -63,19 +65,17 @@ judged-fits count (l ∷ ls) e =
         false≢true (rw q at t)
 
 pub import-fits : (log words : List ℕ) (s : Settings) → importedOf log words s mostLines mostLines .number ≡ 8 → ⊥
-unfolding importedOf
-import-fits log words s e =
-    ⊎-elim
-    (λ (z : verdictOn log .number ≡ 0).
-    let a = lines-few (linesOf log) z in
+import-fits log words s =
+    imported-cases log words s mostLines mostLines (λ (r : Imported). r .number ≡ 8 → ⊥)
+    (λ v a b e. absurd (omega arith))
+    (λ v f e.
+    let a = lines-few (linesOf log) v in
     let b = entries-few words s (linesOf log) in
     let c = pairs-few (entriesIn log words s) in
-    let f : leb (length (linesOf log)) mostLines ≡ true = le-leb (length (linesOf log)) mostLines a in
-    let g : leb (length (pairsOf (entriesIn log words s))) mostLines ≡ true = le-leb (length (pairsOf (entriesIn log words s))) mostLines (omega arith) in
-    let q : _≡_ {A = ℕ} 0 8 = rw (eq-eqb (verdictOn log .number) 0 z, f, g) at e in
-    omega arith)
-    (λ (n : verdictOn log .number ≡ 0 → ⊥). judged-fits 0 (linesOf log) (rw (ne-eqb (verdictOn log .number) 0 n) at e))
-    (eq-or-ne (verdictOn log .number) 0)
+    let g : leb (length (linesOf log)) mostLines ≡ true = le-leb (length (linesOf log)) mostLines a in
+    let h : leb (length (pairsOf (entriesIn log words s))) mostLines ≡ true = le-leb (length (pairsOf (entriesIn log words s))) mostLines (omega arith) in
+    false≢true (sym (rw (g, h) at f)))
+    (λ n e. judged-fits 0 (linesOf log) e)
 
 -- ---- the longest output
 

@@ -45,9 +45,10 @@ use Rattle.importer.specs.declared.Settings.{Settings}
 use Rattle.importer.specs.declared.Imported.{Imported}
 use Rattle.importer.specs.declared.Outcome.{Outcome}
 use Rattle.importer.specs.declared.Outcome.the-variants.{Belongs, Unresolved, Ambiguous, Refused}
-use Rattle.importer.specs.Import.{dayIn, readingIn, typedIn, rowRoom, outcomeFrom, answerTo, listedFor, outcomeOf, caseOf, valueOf, entryFrom, entryIn, entriesOf, mostLines, lineCases as logCases, judgeLine as judgeLog, Verdict, judgedFrom, verdictOn, outcomesIn, entriesIn, fitsIn, importedOf}
+use Rattle.importer.specs.Import.{dayIn, readingIn, typedIn, rowRoom, outcomeFrom, answerTo, listedFor, outcomeOf, caseOf, valueOf, entryFrom, entryIn, entriesOf, mostLines, lineCases as logCases, judgeLine as judgeLog, Verdict, judgedFrom, verdictOn, outcomesIn, entriesIn, importedOf}
 use Rattle.importer.specs.Demands.{questionOf}
 use Rattle.importer.proofs.Judging.{line-good, all-good}
+use Rattle.importer.proofs.Whole.{imported-cases}
 use Rattle.importer.proofs.Tables.{entries-few}
 use Rattle.reports.specs.Report.{indexWords, logOf, indexOf, wholePart, registerPart, settingsPart, logPart}
 use Rattle.reports.specs.Demands.{settingsOf}
@@ -216,32 +217,16 @@ judged-within count (l ∷ ls) h = by-test (eqb (judgeLog count l) 0) refl (judg
     by-test false e r = (log-number count l, omega arith)
 
 module _ (log words : List ℕ) (s : Settings) (lines pairs : ℕ) where
-  -- by the tests that decide it
-  given : Bool → Bool → Imported
-  given a b =
-      cond a
-      (cond b
-      (record { number = 0; line = 0; lines = length (linesOf log); pairs = length (pairsOf (entriesIn log words s)) })
-      (record { number = 8; line = 0; lines = 0; pairs = 0 }))
-      (record { number = verdictOn log .number; line = verdictOn log .line; lines = 0; pairs = 0 })
-
   imported-within : (importedOf log words s lines pairs .number < 256) × (importedOf log words s lines pairs .line ≤ 1025)
-  unfolding importedOf given
-  imported-within = by-tests (eqb (verdictOn log .number) 0) (fitsIn log words s lines pairs)
-    where
-      by-tests : (a b : Bool) → (given a b .number < 256) × (given a b .line ≤ 1025)
-      by-tests true true = (omega arith, omega arith)
-      by-tests true false = (omega arith, omega arith)
-      by-tests false b = judged-within 0 (linesOf log) (omega arith)
+  imported-within =
+      imported-cases log words s lines pairs (λ (r : Imported). (r .number < 256) × (r .line ≤ 1025))
+      (λ v a b. (omega arith, omega arith))
+      (λ v f. (omega arith, omega arith))
+      (λ n. judged-within 0 (linesOf log) (omega arith))
 
   -- an import that is answered has no line that is refused
   imported-good : importedOf log words s lines pairs .number ≡ 0 → verdictOn log .number ≡ 0
-  unfolding importedOf given
-  imported-good z = by-test (eqb (verdictOn log .number) 0) refl z
-    where
-      by-test : (a : Bool) → eqb (verdictOn log .number) 0 ≡ a → given a (fitsIn log words s lines pairs) .number ≡ 0 → verdictOn log .number ≡ 0
-      by-test true e q = eqb-true (verdictOn log .number) 0 e
-      by-test false e q = q
+  imported-good = imported-cases log words s lines pairs (λ (r : Imported). r .number ≡ 0 → verdictOn log .number ≡ 0) (λ v a b z. v) (λ v f z. v) (λ n z. z)
 
 -- ---- every line
 

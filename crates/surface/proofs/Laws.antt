@@ -3,7 +3,7 @@
 -- reading and a refused writing keep the buffer is `buffer-kept` and `out-kept` of the crate fields.
 -- Assumes nothing.
 use mathlib.Core.Path.{_≡_, refl, ap}
-use mathlib.Core.Bool.{Bool, true, false, cond, _&&_}
+use mathlib.Core.Bool.{Bool, true, false, cond}
 use mathlib.Core.List.{List}
 use Prim.Native.Nat.{ℕ, _+_, _≤_}
 use native.Mathlib.Omega.{arith}
@@ -27,11 +27,11 @@ use Rattle.rows.specs.declared.Row.{Row}
 use Rattle.rows.specs.Rows.{rowsAfter}
 use Rattle.rows.proofs.Laws.{rows-refused}
 use Rattle.search.proofs.Outcomes.{refused-gives}
-use Rattle.lines.specs.Lines.{linesOf}
-use Rattle.weeks.specs.Pairs.{pairsOf, Columns as Pairs, roomOf as pairRoom}
+use Rattle.weeks.specs.Pairs.{Columns as Pairs, roomOf as pairRoom}
 use Rattle.importer.specs.declared.Settings.{Settings}
 use Rattle.importer.specs.declared.Imported.{Imported}
-use Rattle.importer.specs.Import.{verdictOn, Outcomes, outcomeRoom, entriesIn, importedOf, outcomesAfter, pairsAfter}
+use Rattle.importer.specs.Import.{Outcomes, outcomeRoom, importedOf, outcomesAfter, pairsAfter}
+use Rattle.importer.proofs.Whole.{imported-cases}
 use Rattle.importer.proofs.Wholes.{wholes}
 use Rattle.surface.specs.Flat.{listAnswer, searchAnswer, importAnswer, writeAnswer}
 
@@ -82,27 +82,13 @@ pub records-kept : (query : List ℕ) (m p q allowance : ℕ) (w : List ℕ) (ro
 records-kept query m p q allowance w rows n = rows-refused query m p q allowance w rows n
 
 -- the outcomes and the pairs of an import lie within their rooms
-module _ (log words : List ℕ) (s : Settings) (lines pairs : ℕ) where
-  -- the import by its three tests
-  abbrev imported : Bool → Bool → Bool → Imported
-  imported good lines-fit pairs-fit =
-      cond good
-      (cond (lines-fit && pairs-fit)
-      (record { number = 0; line = 0; lines = length (linesOf log); pairs = length (pairsOf (entriesIn log words s)) })
-      (record { number = 8; line = 0; lines = 0; pairs = 0 }))
-      (record { number = verdictOn log .number; line = verdictOn log .line; lines = 0; pairs = 0 })
-
-  pub imported-within : let r = importAnswer (importedOf log words s lines pairs) in (r .lines ≤ lines) × (r .pairs ≤ pairs)
-  unfolding importedOf
-  imported-within =
-      by-test (eqb (verdictOn log .number) 0) (leb (length (linesOf log)) lines) (leb (length (pairsOf (entriesIn log words s))) pairs) refl refl
-    where
-      by-test : (a b c : Bool) → leb (length (linesOf log)) lines ≡ b → leb (length (pairsOf (entriesIn log words s))) pairs ≡ c
-          → (imported a b c .lines ≤ lines) × (imported a b c .pairs ≤ pairs)
-      by-test false b c e f = (omega arith, omega arith)
-      by-test true false c e f = (omega arith, omega arith)
-      by-test true true false e f = (omega arith, omega arith)
-      by-test true true true e f = (leb-true _ _ e, leb-true _ _ f)
+pub imported-within : (log words : List ℕ) (s : Settings) (lines pairs : ℕ)
+    → let r = importAnswer (importedOf log words s lines pairs) in (r .lines ≤ lines) × (r .pairs ≤ pairs)
+imported-within log words s lines pairs =
+    imported-cases log words s lines pairs (λ (r : Imported). (r .lines ≤ lines) × (r .pairs ≤ pairs))
+    (λ v a b. (a, b))
+    (λ v f. (omega arith, omega arith))
+    (λ n. (omega arith, omega arith))
 
 -- and so within each column
 pub outcomes-within : (log words : List ℕ) (s : Settings) (o : Outcomes) (c : Pairs)

@@ -1,14 +1,11 @@
 -- `put_row` meets its contract: the line fills its part, and the rest stays.
-use mathlib.Core.Path.{_≡_, _∙_}
-use Prim.Native.Nat.{_+_, _-_, _*_}
-use native.Mathlib.Omega.{arith}
-use lib.ListN.{length, take, drop, length-drop}
-use lib.Seq.{length-take-le}
-use Rattle.frames.specs.Frames.{rowLineLength}
-use Rattle.answers.specs.Output.{rowLine}
-use Rattle.fields.proofs.Fitted.{put-line}
-use Rattle.answers.proofs.Text.{row-exact}
+use mathlib.Core.List.{[], _∷_}
 use borrow.Author.Needs.{needs}
+use Rattle.fields.specs.Layouts.{outOf}
+use Rattle.fields.proofs.Fitted.{put-at}
+use Rattle.frames.specs.Frames.{rowFrame, rowLineLength}
+use Rattle.answers.specs.Output.{rowLine}
+use Rattle.answers.proofs.Text.{row-exact}
 use Rattle.answers.proofs.put_row.Statement.{statement}
 use Rattle.answers.proofs.put_row.Tie as tie
 
@@ -46,13 +43,7 @@ returns : tie.Need-returns
 returns c =
     let b = c .before .before .before .before .before in
     let a = b .args in
-    let w = a .out .now in
-    let p = b .pre .4 in
-    let k : (rowLineLength * a .k + rowLineLength) - rowLineLength * a .k ≡ rowLineLength = omega arith in
-    let n = length-drop (rowLineLength * a .k) w in
-    let l = length-take-le ((rowLineLength * a .k + rowLineLength) - rowLineLength * a .k) (drop (rowLineLength * a .k) w) (omega arith) in
-    put-line rowLineLength (rowLineLength * a .k) ((rowLineLength * a .k + rowLineLength) - rowLineLength * a .k) w (c .before .before .write-row .last .0) (rowLine (a .id) (a .shared) (a .size)) k
-    (c .before .before .write-row .ensures .1 ∙ row-exact (a .id) (a .shared) (a .size) (take ((rowLineLength * a .k + rowLineLength) - rowLineLength * a .k) (drop (rowLineLength * a .k) w)) (l ∙ k))
+    put-at rowLineLength (a .k) (a .out .now) (c .before .before .write-row .last .0) (rowLine (a .id) (a .shared) (a .size)) (outOf rowFrame (a .id ∷ a .shared ∷ a .size ∷ []) []) (b .pre .4) (c .before .before .write-row .ensures .1) (row-exact (a .id) (a .shared) (a .size))
 
 pub put-row-spec : {M : Type 1} → statement M
 put-row-spec =

@@ -1,12 +1,10 @@
 -- `put_outcome` meets its contract: the line fills its part, and the rest stays.
-use mathlib.Core.Path.{_≡_, _∙_}
-use Prim.Native.Nat.{_+_, _-_, _*_}
-use native.Mathlib.Omega.{arith}
-use lib.ListN.{length, take, drop, length-drop}
-use lib.Seq.{length-take-le}
+use mathlib.Core.List.{[], _∷_}
+use Prim.Native.Nat.{_%_}
 use borrow.Author.Needs.{needs}
-use Rattle.fields.proofs.Fitted.{put-line}
-use Rattle.log_frames.specs.Frames.{outcomeLineLength}
+use Rattle.fields.specs.Layouts.{outOf}
+use Rattle.fields.proofs.Fitted.{put-at}
+use Rattle.log_frames.specs.Frames.{outcomeFrame, outcomeLineLength}
 use Rattle.reports.specs.Tables.{outcomeText}
 use Rattle.reports.proofs.Text.{outcome-exact}
 use Rattle.reports.proofs.put_outcome.Statement.{statement}
@@ -43,13 +41,7 @@ returns : tie.Need-returns
 returns c =
     let b = c .before .before .before .before .before in
     let a = b .args in
-    let out = a .out .now in
-    let p = b .pre .1 in
-    let k : (outcomeLineLength * a .k + outcomeLineLength) - outcomeLineLength * a .k ≡ outcomeLineLength = omega arith in
-    let n = length-drop (outcomeLineLength * a .k) out in
-    let l = length-take-le ((outcomeLineLength * a .k + outcomeLineLength) - outcomeLineLength * a .k) (drop (outcomeLineLength * a .k) out) (omega arith) in
-    put-line outcomeLineLength (outcomeLineLength * a .k) ((outcomeLineLength * a .k + outcomeLineLength) - outcomeLineLength * a .k) out (c .before .before .write-outcome .last .0) (outcomeText (a .case) (a .value)) k
-    (c .before .before .write-outcome .ensures .1 ∙ outcome-exact (a .case) (a .value) (take ((outcomeLineLength * a .k + outcomeLineLength) - outcomeLineLength * a .k) (drop (outcomeLineLength * a .k) out)) (l ∙ k))
+    put-at outcomeLineLength (a .k) (a .out .now) (c .before .before .write-outcome .last .0) (outcomeText (a .case) (a .value)) (outOf outcomeFrame (a .case % 256 ∷ a .value % 65536 ∷ []) []) (b .pre .1) (c .before .before .write-outcome .ensures .1) (outcome-exact (a .case) (a .value))
 
 pub put-outcome-spec : {M : Type 1} → statement M
 put-outcome-spec =

@@ -1,12 +1,10 @@
 -- `put_pair` meets its contract: the line fills its part, and the rest stays.
-use mathlib.Core.Path.{_≡_, _∙_}
-use Prim.Native.Nat.{_+_, _-_, _*_}
-use native.Mathlib.Omega.{arith}
-use lib.ListN.{length, take, drop, length-drop}
-use lib.Seq.{length-take-le}
+use mathlib.Core.List.{[], _∷_}
+use Prim.Native.Nat.{_%_}
 use borrow.Author.Needs.{needs}
-use Rattle.fields.proofs.Fitted.{put-line}
-use Rattle.log_frames.specs.Frames.{pairLineLength}
+use Rattle.fields.specs.Layouts.{outOf}
+use Rattle.fields.proofs.Fitted.{put-at}
+use Rattle.log_frames.specs.Frames.{pairFrame, pairLineLength}
 use Rattle.reports.specs.Tables.{pairText}
 use Rattle.reports.proofs.Text.{pair-exact}
 use Rattle.reports.proofs.put_pair.Statement.{statement}
@@ -46,13 +44,7 @@ returns : tie.Need-returns
 returns c =
     let b = c .before .before .before .before .before in
     let a = b .args in
-    let out = a .out .now in
-    let p = b .pre .1 in
-    let k : (pairLineLength * a .k + pairLineLength) - pairLineLength * a .k ≡ pairLineLength = omega arith in
-    let n = length-drop (pairLineLength * a .k) out in
-    let l = length-take-le ((pairLineLength * a .k + pairLineLength) - pairLineLength * a .k) (drop (pairLineLength * a .k) out) (omega arith) in
-    put-line pairLineLength (pairLineLength * a .k) ((pairLineLength * a .k + pairLineLength) - pairLineLength * a .k) out (c .before .before .write-pair .last .0) (pairText (a .id) (a .week) (a .sum) (a .count)) k
-    (c .before .before .write-pair .ensures .1 ∙ pair-exact (a .id) (a .week) (a .sum) (a .count) (take ((pairLineLength * a .k + pairLineLength) - pairLineLength * a .k) (drop (pairLineLength * a .k) out)) (l ∙ k))
+    put-at pairLineLength (a .k) (a .out .now) (c .before .before .write-pair .last .0) (pairText (a .id) (a .week) (a .sum) (a .count)) (outOf pairFrame (a .id % 65536 ∷ a .week % 65536 ∷ a .sum ∷ a .count % 65536 ∷ []) []) (b .pre .1) (c .before .before .write-pair .ensures .1) (pair-exact (a .id) (a .week) (a .sum) (a .count))
 
 pub put-pair-spec : {M : Type 1} → statement M
 put-pair-spec =
