@@ -98,7 +98,7 @@ fn rows_good(words: &[u32]) -> bool
 }
 
 // How many names have an id below: the place of the id's name, where it is one.
-fn name_place(words: &[u32], id: u32) -> usize
+pub fn name_place(words: &[u32], id: u32) -> usize
     requires { ⌜ Named (now words) ⌝ }
     ensures { λ r. ⌜ r ≡ namePlace (now (words .entry)) id ⌝ }
 {

@@ -1,6 +1,6 @@
 -- A good index is the index of its own names and features (`good-built`), so it is fixed by them: `good-words`, `good-unique`, `built-same`.
 -- The idea: its rows are the runs of their own postings, these ascend, and an ascending list is fixed by its members.
--- For whoever changes an index in place; cited by nothing yet.
+-- Cited by whoever changes an index in place.
 -- Assumes nothing.
 use mathlib.Core.Path.{_≡_, sym, ap, ap₂, _∙_}
 use mathlib.Core.Bool.{true}
@@ -133,7 +133,7 @@ module _ (w : List ℕ) (g : Good w) (narrow : Narrow w) where
             below = λ f m. (let p = features-row w (nameId w i) f m in let b = narrow (p .0) (p .1) in let e = p .3 in omega arith);
           }
 
-  good-names : namesIn w ≡ map wordOf (entriesIn w)
+  pub good-names : namesIn w ≡ map wordOf (entriesIn w)
   unfolding namesIn entriesIn nameId nameSize
   good-names =
       tabulate-ext (nameWord w) (λ (i : ℕ). wordOf (entryIn w i)) (nameCount w) same
@@ -172,7 +172,7 @@ module _ (w : List ℕ) (g : Good w) (narrow : Narrow w) where
           in
           ap (λ (x : ℕ). member x (triplesFrom (allRowsIn w))) (sym e) ∙ rows-in-member w (q .0) (nameId w (p .0)) (q .1) (q .2)
 
-  good-rows : allRowsIn w ≡ rowsOf (entriesIn w)
+  pub good-rows : allRowsIn w ≡ rowsOf (entriesIn w)
   unfolding rowsOf
   good-rows = sym (runs-unique (allRowsIn w) (rows-fit w g narrow)) ∙ ap runsOf good-triples
 

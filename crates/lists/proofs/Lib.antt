@@ -1,5 +1,5 @@
 pub mod Laws
-mod Rows
-mod Sized
+pub mod Rows
+pub mod Sized
 pub mod Spans
 pub mod Total

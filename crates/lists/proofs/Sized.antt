@@ -1,5 +1,5 @@
 -- The rows of a size stand together, and a search of them alone finds the row of a feature.
--- Cited by the proofs of `rows_of_size` and `place_among`.
+-- Cited by the proofs of `rows_of_size` and `place_among`, and of the crate `seats`.
 -- Assumes nothing.
 use mathlib.Core.Path.{_≡_, ap, _∙_}
 use mathlib.Core.Logic.{⊎-elim, inl, inr}
@@ -105,7 +105,7 @@ module _ (w : List ℕ) (g : Good w) where
     abbrev pub part : List ℕ
     part = cut (sizeSpan w y) w
 
-    part-size : (r : ℕ) → rowsUnder w y ≤ r → r < rowsUnder w (y + 1) → rowSize w r ≡ y
+    pub part-size : (r : ℕ) → rowsUnder w y ≤ r → r < rowsUnder w (y + 1) → rowSize w r ≡ y
     part-size r l m =
         let o = under-most w (y + 1) in
         let a = size-from y r l (omega arith) in
@@ -137,7 +137,7 @@ module _ (w : List ℕ) (g : Good w) where
       length-in = cut-length w (rowsUnder w y) many part-whole i row
 
     -- their features ascend
-    features-ascend : (i j : ℕ) → i < j → j < many → rowFeature w (rowsUnder w y + i) < rowFeature w (rowsUnder w y + j)
+    pub features-ascend : (i j : ℕ) → i < j → j < many → rowFeature w (rowsUnder w y + i) < rowFeature w (rowsUnder w y + j)
     unfolding Before
     features-ascend i j l h =
         let o = under-most w (y + 1) in
