@@ -8,7 +8,7 @@ from .numbers import sentence
 from .text import quoted
 
 MEASURES = {'dice': 1, 'jaccard': 2, 'cosine': 3, 'overlap': 4}
-# readings in hundredths, and what a frame has for the one that is missing
+# in hundredths: the number above it stands for a missing reading in a frame
 LARGEST_READING = 65534
 
 

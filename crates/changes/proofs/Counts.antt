@@ -47,18 +47,6 @@ pub absent-head : (x y : ℕ) (l : List ℕ) → (x ≡ y → ⊥) → member x 
 unfolding member
 absent-head x y l n = rw (ne-eqb x y n)
 
--- one row more, unless there was one of that key
-pub length-rows-put : (key id : ℕ) (rows : List Row) → Ascending (keysIn rows) → length (putPosting key id rows) ≡ length rows + cond (not (member key (keysIn rows))) 1 0
-length-rows-put key id [] a = unfold member in (ap length (put-nil key id))
-length-rows-put key id (r ∷ rs) a =
-    put-cases key id r rs (λ (l : List Row). length l ≡ length (r ∷ rs) + cond (not (member key (keysIn (r ∷ rs)))) 1 0)
-    (λ h. let e = length-rows-put key id rs (ascending-rest (r .key) (keysIn rs) a) in rw (absent-head key (r .key) (keysIn rs) (λ q. omega arith)) (omega arith))
-    (λ e. let m : member key (keysIn (r ∷ rs)) ≡ true = ap (λ (k : ℕ). member k (keysIn (r ∷ rs))) (sym e) ∙ member-head (r .key) (keysIn rs) in rw m (omega arith))
-    (λ h. let m : member key (keysIn (r ∷ rs)) ≡ false = absent-head key (r .key) (keysIn rs) (λ q. omega arith) ∙ test-fails (member key (keysIn rs)) (lower h) in rw m (omega arith))
-  where
-    lower : key < r .key → member key (keysIn rs) ≡ true → ⊥
-    lower h m = let b = above-member (r .key) (keysIn rs) (ascending-above (r .key) (keysIn rs) a) key m in omega arith
-
 pub key-postings : (size f id : ℕ) (fs : List ℕ) (rows : List Row) → member f fs ≡ false
     → member (keyOf size f) (keysIn (withPostings size fs id rows)) ≡ member (keyOf size f) (keysIn rows)
 key-postings size f id [] rows n = ap (λ (l : List Row). member (keyOf size f) (keysIn l)) (postings-nil size id rows)
@@ -70,17 +58,3 @@ key-postings size f id (g ∷ fs) rows n =
   where
     apart : f ≡ g → ⊥
     apart e = true≢false (sym (member-head g fs) ∙ ap (λ (x : ℕ). member x (g ∷ fs)) (sym e) ∙ n)
-
--- one row more for each feature that had none
-pub length-rows-postings : (size id : ℕ) (fs : List ℕ) (rows : List Row) → Distinct fs → Ascending (keysIn rows)
-    → length (withPostings size fs id rows) ≡ length rows + countOf (λ (f : ℕ). not (member (keyOf size f) (keysIn rows))) fs
-unfolding Distinct countOf
-length-rows-postings size id [] rows d a = ap length (postings-nil size id rows) ∙ (let e : length rows ≡ length rows + 0 = omega arith in e)
-length-rows-postings size id (f ∷ fs) rows d a =
-    let e = ap length (postings-cons size f fs id rows) in
-    let p = length-rows-put (keyOf size f) id (withPostings size fs id rows) (postings-keys size id fs rows a) in
-    let q : _≡_ {A = ℕ} (cond (not (member (keyOf size f) (keysIn (withPostings size fs id rows)))) 1 0) (cond (not (member (keyOf size f) (keysIn rows))) 1 0) =
-    ap (λ (b : Bool). cond (not b) 1 0) (key-postings size f id fs rows (d .0))
-    in
-    let r = length-rows-postings size id fs rows (d .1) a in
-    omega arith

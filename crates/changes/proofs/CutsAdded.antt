@@ -319,13 +319,6 @@ module _ (size id : ℕ) (rows : List Row) (fit : RowsFit rows) where
       rw (put-in-append (cond (hasRow size rows f) [] (replicate rowWidth (rowWidth * rowSeat size rows f))) (cond (hasRow size rows f) [] (size ∷ f ∷ 0 ∷ 0 ∷ [])) (rowCuts size rows fs) (newRows size rows fs) (rowWords 0 rows) (same-cuts (hasRow size rows f) (rowWidth * rowSeat size rows f) size f))
       (row-put f fs rise (low .0) (putIn (rowCuts size rows fs) (newRows size rows fs) (rowWords 0 rows)) (rows-short fs (ascending-rest f fs rise) (low .1)))
 
-  -- the rows, their places and counts worked out
-  pub rows-put-in : (fs : List ℕ) → Ascending fs → Each (λ (f : ℕ). f < featureSpan) fs
-      → placedFrom (length (withPostings size fs id rows)) 0 size fs (putIn (rowCuts size rows fs) (newRows size rows fs) (rowWords 0 rows))
-      ≡ rowWords 0 (withPostings size fs id rows)
-  rows-put-in fs rise low =
-      placed-words size fs 0 (withPostings size fs id rows) (putIn (rowCuts size rows fs) (newRows size rows fs) (rowWords 0 rows)) (rows-short fs rise low)
-
   -- four words for each row more
   pub length-rows-put-in : (fs : List ℕ) → Ascending fs → Each (λ (f : ℕ). f < featureSpan) fs
       → length (rowCuts size rows fs) + rowWidth * length rows ≡ rowWidth * length (withPostings size fs id rows)

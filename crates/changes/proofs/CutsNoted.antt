@@ -76,9 +76,6 @@ module _ (id : ℕ) (rows : List Row) (k : ℕ) (h : k < length rows) where
     around : RowsAs (before ++ row ∷ drop (k + 1) rows) ws
     around = rw now-around at f
 
-    pub thin-size : getD ws (rowWidth * k) 0 ≡ row .key / featureSpan
-    thin-size = rw length-before at (size-at before row (drop (k + 1) rows) ws around)
-
     pub thin-count : getD ws (rowWidth * k + 3) 0 ≡ length (row .list)
     thin-count = rw length-before at (count-at before row (drop (k + 1) rows) ws around)
 
@@ -174,20 +171,6 @@ module _ (w : List ℕ) (g : Good w) (i id : ℕ) (name : i < nameCount w) (e : 
   -- a row that holds the id of a name has that name's size
   pub holds-size : (r : ℕ) → r < rowCount w → member id (rowIn w r .list) ≡ true → rowSize w r ≡ nameSize w i
   holds-size r b m = holder-size w g i name r b (rw e m)
-
-  pub holds-not : (r : ℕ) → r < rowCount w → (rowSize w r ≡ nameSize w i → ⊥) → member id (rowIn w r .list) ≡ false
-  holds-not r b n = test-fails (member id (rowIn w r .list)) (λ m. n (holds-size r b m))
-
-  -- the same by the row's key
-  pub row-without : Narrow w → (r : ℕ) → r < length (allRowsIn w) → ((getD (allRowsIn w) r noRow) .key / featureSpan ≡ nameSize w i → ⊥)
-      → member id ((getD (allRowsIn w) r noRow) .list) ≡ false
-  unfolding allRowsIn
-  row-without narrow r h n =
-      let b : r < rowCount w = rw (length-tabulate (rowIn w) (rowCount w)) at h in
-      let q = getD-tabulate (rowIn w) (rowCount w) r noRow b in
-      let s = narrow r b in
-      let t = ap (λ (x : Row). x .key / featureSpan) q in
-      ap (λ (x : Row). member id (x .list)) q ∙ holds-not r b (λ k. n (omega arith))
 
   -- as many rows hold it as the name's size
   pub holders : countOf (λ (r : Row). member id (r .list)) (allRowsIn w) ≡ nameSize w i

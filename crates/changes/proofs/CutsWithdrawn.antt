@@ -134,11 +134,6 @@ rows-as-taken id (r ∷ rs) ws a = rw step (by-list (othersOf id (r .list)) (row
     by-list [] h = h
     by-list (x ∷ l) h = (a .0, later, rw (ne-eqb (suc (length l)) 0 (λ e. omega arith)), h)
 
-pub rows-taken : (id : ℕ) (rows : List Row) (size : ℕ) (ws : List ℕ) → RowsAs (map (thinRow id) rows) ws
-    → placedFrom (length (withoutPostings id rows)) 0 size [] (takeOut (emptyCuts (map (thinRow id) rows)) ws) ≡ rowWords 0 (withoutPostings id rows)
-rows-taken id rows size ws a =
-    placed-same size 0 (withoutPostings id rows) (takeOut (emptyCuts (map (thinRow id) rows)) ws) (rows-as-taken id rows ws a)
-
 -- how many words are taken out
 pub length-empty : (id : ℕ) (rows : List Row)
     → length (emptyCuts (map (thinRow id) rows)) + rowWidth * length (withoutPostings id rows) ≡ rowWidth * length rows

@@ -117,22 +117,6 @@ module _ (size f id : ℕ) (fs : List ℕ) (rows : List Row) (up : Ascending (ke
   pub later-take : take (placeOf key (keysIn rows)) now ≡ take (placeOf key (keysIn rows)) rows
   later-take = take-postings key size id fs rows up at-least
 
-  -- so the lists before it are as long together
-  pub later-lists : length (listsOf (take (placeOf key (keysIn rows)) now)) ≡ length (listsOf (take (placeOf key (keysIn rows)) rows))
-  later-lists = ap (λ (l : List Row). length (listsOf l)) later-take
-
-  -- and so is the row there, if it was that of f
-  pub later-row : (i : ℕ) → i < length rows → (getD rows i noRow) .key ≡ key → (i < length now) × (getD now i noRow ≡ getD rows i noRow)
-  later-row i h q =
-      same-row rows now key i up h q (place-postings (suc key) size id fs rows higher) (take-postings (suc key) size id fs rows up higher)
-
-  -- nor is there one that was not
-  pub later-none : (i : ℕ) → (i < length rows → (getD rows i noRow) .key ≡ key → ⊥) → i < length now → (getD now i noRow) .key ≡ key → ⊥
-  later-none i n h q =
-      let p = place-postings (suc key) size id fs rows higher in
-      let s = same-row now rows key i (postings-keys size id fs rows up) h q (sym p) (rw p (sym (take-postings (suc key) size id fs rows up higher))) in
-      n (s .0) (ap (λ (r : Row). r .key) (s .1) ∙ q)
-
 -- ---- the features of a name from the last to the first, by place in the rows as they were
 
 module _ (size id : ℕ) (fs : List ℕ) (rows : List Row) (up : Ascending (keysIn rows)) (rise : Ascending fs) (j : ℕ) (h : j < length fs) where
@@ -156,21 +140,3 @@ module _ (size id : ℕ) (fs : List ℕ) (rows : List Row) (up : Ascending (keys
 
   take-before : (i : ℕ) → i ≡ placeOf keyAt (keysIn rows) → take i before ≡ take i rows
   take-before i e = rw e (later-take size (getD fs j 0) id (drop (j + 1) fs) rows up above-rest)
-
-  -- its row was there: the list grows
-  pub step-met : (i : ℕ) → i ≡ placeOf keyAt (keysIn rows) → i < length rows → (getD rows i noRow) .key ≡ keyAt
-      → withPostings size (drop j fs) id rows ≡ take i rows ++ rowWith id (getD rows i noRow) ∷ drop (i + 1) before
-  step-met i e b q =
-      let s = later-row size (getD fs j 0) id (drop (j + 1) fs) rows up above-rest i b q in
-      step
-      ∙ put-met keyAt id before (postings-keys size id (drop (j + 1) fs) rows up) i (place-before i e) (s .0) (ap (λ (r : Row). r .key) (s .1) ∙ q)
-      ∙ ap₂ (λ (l : List Row) (r : Row). l ++ rowWith id r ∷ drop (i + 1) before) (take-before i e) (s .1)
-
-  -- it was not: a new row
-  pub step-new : (i : ℕ) → i ≡ placeOf keyAt (keysIn rows) → (i < length rows → (getD rows i noRow) .key ≡ keyAt → ⊥)
-      → withPostings size (drop j fs) id rows ≡ take i rows ++ loneRow keyAt id ∷ drop i before
-  step-new i e n =
-      step
-      ∙ put-new keyAt id before (postings-keys size id (drop (j + 1) fs) rows up) i (place-before i e)
-      (later-none size (getD fs j 0) id (drop (j + 1) fs) rows up above-rest i n)
-      ∙ ap (λ (l : List Row). l ++ loneRow keyAt id ∷ drop i before) (take-before i e)

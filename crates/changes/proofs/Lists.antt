@@ -234,10 +234,6 @@ put-in-same a (v ∷ vs) l h =
     ap (putAt a v) (put-in-same a vs l h)
     ∙ ap₂ (λ (x y : List ℕ). x ++ v ∷ y) (take-at (take a l) (vs ++ drop a l) a e) (drop-at (take a l) (vs ++ drop a l) a e)
 
-pub length-put-at : (a v : ℕ) (l : List ℕ) → length (putAt a v l) ≡ suc (length l)
-unfolding putIn
-length-put-at a v l = let e = length-put-in (a ∷ []) (v ∷ []) l refl in omega arith
-
 pub put-at-left : (a v : ℕ) (k l : List ℕ) → a ≤ length k → putAt a v (k ++ l) ≡ putAt a v k ++ l
 unfolding putIn Each
 put-at-left a v k l h = put-in-left (a ∷ []) (v ∷ []) k l refl (h, tt)

@@ -163,15 +163,6 @@ module _ (es : List Entry) (up : Ascending (idsOf es)) (k id : ℕ) (h : k < len
   pub without-place : withoutId id es ≡ take k es ++ drop (k + 1) es
   without-place = others-place idIn id es noEntry up k h at
 
-  -- one name less
-  pub length-without : length (withoutId id es) + 1 ≡ length es
-  length-without =
-      let e = without-place in
-      let a = ap length e ∙ length-append (take k es) (drop (k + 1) es) in
-      let b = length-take-le k es (omega arith) in
-      let c = length-drop (k + 1) es in
-      omega arith
-
   -- the name words: one taken out at its place
   pub words-without : map wordOf (withoutId id es) ≡ take k (map wordOf es) ++ drop (k + 1) (map wordOf es)
   words-without =

@@ -51,11 +51,6 @@ module _ (start id : ℕ) (rows : List Row) (w : List ℕ) where
   thinned-at k i n =
       kept (λ (v : List ℕ). getD v i 0 ≡ getD w i 0) k (λ v j x h p. getD-set-other v (start + rowWidth * j + lengthColumn) i x 0 (n j h) ∙ p) refl
 
-  -- so those before the rows
-  pub thinned-front : (k n : ℕ) → n ≤ start → take n (thinned k) ≡ take n w
-  thinned-front k n b =
-      kept (λ (v : List ℕ). take n v ≡ take n w) k (λ v j x h p. take-set-le n v (start + rowWidth * j + lengthColumn) x (omega arith) ∙ p) refl
-
   -- and those from row k on
   pub thinned-back : (k n : ℕ) → start + rowWidth * k ≤ n → drop n (thinned k) ≡ drop n w
   thinned-back k n b =

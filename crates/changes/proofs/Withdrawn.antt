@@ -48,31 +48,10 @@ kept-append key (x ∷ l) a b = refl
 
 -- ---- the rows
 
-pub withdraw-nil : (id : ℕ) → withoutPostings id [] ≡ []
-unfolding withoutPostings
-withdraw-nil id = refl
-
 -- a row whose list is then empty goes, and any other is kept
 pub withdraw-gone : (id : ℕ) (r : Row) (rs : List Row) → length (othersOf id (r .list)) ≡ 0 → withoutPostings id (r ∷ rs) ≡ withoutPostings id rs
 unfolding withoutPostings keptRow
 withdraw-gone id r rs e = ap (λ (l : List ℕ). keptRow (r .key) l (withoutPostings id rs)) (length-nil (othersOf id (r .list)) e)
-
-pub withdraw-kept : (id : ℕ) (r : Row) (rs : List Row) → 0 < length (othersOf id (r .list))
-    → withoutPostings id (r ∷ rs) ≡ record { key = r .key; list = othersOf id (r .list) } ∷ withoutPostings id rs
-unfolding withoutPostings keptRow
-withdraw-kept id r rs h = by-list (othersOf id (r .list)) h
-  where
-    by-list : (l : List ℕ) → 0 < length l → keptRow (r .key) l (withoutPostings id rs) ≡ record { key = r .key; list = l } ∷ withoutPostings id rs
-    by-list [] b = absurd (omega arith)
-    by-list (x ∷ l) b = refl
-
--- row after row
-pub withdraw-append : (id : ℕ) (a b : List Row) → withoutPostings id (a ++ b) ≡ withoutPostings id a ++ withoutPostings id b
-unfolding withoutPostings
-withdraw-append id [] b = refl
-withdraw-append id (r ∷ a) b =
-    ap (keptRow (r .key) (othersOf id (r .list))) (withdraw-append id a b)
-    ∙ kept-append (r .key) (othersOf id (r .list)) (withoutPostings id a) (withoutPostings id b)
 
 -- the lists end to end, without the id
 pub lists-withdrawn : (id : ℕ) (rows : List Row) → listsOf (withoutPostings id rows) ≡ othersOf id (listsOf rows)

@@ -15,10 +15,10 @@ use Rattle.words.specs.Words.{nameStart, rowWidth, featureSpan}
 use Rattle.index_writer.specs.Built.{Row, listsOf, rowWords, wordsFrom, RowsFit}
 use Rattle.index_writer.proofs.Read.{length-row-words, read-total}
 use Rattle.splicing.specs.Splice.{putAt, putIn}
-use Rattle.splicing.proofs.Laws.{put-in-parts}
+use Rattle.splicing.proofs.Laws.{length-put-at, put-in-parts}
 use Rattle.changes.specs.Rows.{withPostings}
 use Rattle.changes.specs.Cuts.{rowCuts, newRows, postingCuts, addCuts, addWords, settled}
-use Rattle.changes.proofs.Lists.{map-add, length-put-at, put-at-right, sorted-parts, each-parts}
+use Rattle.changes.proofs.Lists.{map-add, put-at-right, sorted-parts, each-parts}
 use Rattle.changes.proofs.Counts.{length-lists-postings}
 use Rattle.changes.proofs.Placed.{settled-words}
 use Rattle.changes.proofs.CutsAdded.{lists-put-in, rows-short, length-rows-put-in, length-row-cuts, row-cuts-sorted, row-cuts-most, length-posting-cuts, posting-cuts-sorted, posting-cuts-most}

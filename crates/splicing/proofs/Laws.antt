@@ -16,12 +16,12 @@ use Rattle.splicing.specs.Splice.{putAt, takeAt, putIn, takeOut, placesO
 
 -- ---- lengths
 
-length-put-at : (a v : ℕ) (l : List ℕ) → length (putAt a v l) ≡ suc (length l)
+pub length-put-at : (a v : ℕ) (l : List ℕ) → length (putAt a v l) ≡ suc (length l)
 length-put-at zero v l = refl
 length-put-at (suc a) v [] = refl
 length-put-at (suc a) v (x ∷ l) = ap suc (length-put-at a v l)
 
-length-take-at : (a : ℕ) (l : List ℕ) → a < length l → suc (length (takeAt a l)) ≡ length l
+pub length-take-at : (a : ℕ) (l : List ℕ) → a < length l → suc (length (takeAt a l)) ≡ length l
 length-take-at a [] h = absurd (omega arith)
 length-take-at zero (x ∷ l) h = refl
 length-take-at (suc a) (x ∷ l) h = ap suc (length-take-at a l (omega arith))
@@ -49,16 +49,6 @@ length-take-out (a ∷ at) l s h =
     let k = length-take-out at l (s .1) (h .1) in
     let j = length-take-at a (takeOut at l) (omega arith) in
     omega arith
-
--- ---- no places
-
-pub put-in-nil : (vs l : List ℕ) → putIn [] vs l ≡ l
-unfolding putIn
-put-in-nil vs l = refl
-
-pub take-out-nil : (l : List ℕ) → takeOut [] l ≡ l
-unfolding takeOut
-take-out-nil l = refl
 
 -- ---- before the first place
 
