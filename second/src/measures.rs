@@ -84,7 +84,7 @@ pub fn searched(measure: Measure, threshold: Threshold, x: u32, y: u32) -> bool 
     }
 }
 
-/// The smallest c that passes. It is never past x+y, where every measure passes.
+/// The first c from 1 upward that passes. It is never past x+y, where every measure passes, or 1.
 pub fn least_count(measure: Measure, threshold: Threshold, x: u32, y: u32) -> u32 {
-    (0..=x + y).find(|c| similar(measure, threshold, x, y, *c)).unwrap_or(x + y)
+    (1..=x + y).find(|c| similar(measure, threshold, x, y, *c)).unwrap_or(1)
 }

@@ -34,6 +34,23 @@ fn the_least_count_is_from_1_to_the_smaller_size() {
     }
 }
 
+/// Of any two sizes, searched or not, and of no features at all.
+#[test]
+fn the_least_count_is_the_first_from_1_upward() {
+    for measure in MEASURES {
+        for threshold in thresholds() {
+            for (x, y) in (0..=12).flat_map(|x| (0..=12).map(move |y| (x, y))) {
+                let t = least_count(measure, threshold, x, y);
+                assert!(1 <= t && similar(measure, threshold, x, y, t), "{measure:?} {threshold:?} {x} {y}: {t}");
+                assert!(
+                    (1..t).all(|c| !similar(measure, threshold, x, y, c)),
+                    "{measure:?} {threshold:?} {x} {y}: {t}"
+                );
+            }
+        }
+    }
+}
+
 #[test]
 fn a_size_that_is_not_searched_holds_no_similar_name() {
     for measure in MEASURES {

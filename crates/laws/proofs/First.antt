@@ -3,28 +3,16 @@
 use mathlib.Core.Path.{_≡_, refl, sym, ap, subst, _∙_}
 use mathlib.Core.Logic.{⊎-elim}
 use mathlib.Core.Bool.{Bool, true, false, cond, true≢false}
-use Prim.Native.Nat.{ℕ, zero, suc, _+_, _-_, _≤_, _<_}
+use Prim.Native.Nat.{ℕ, zero, suc, _+_, _≤_, _<_}
 use native.Mathlib.Nat.{eq-or-lt-of-le}
 use native.Mathlib.Omega.{arith}
 use Rattle.laws.specs.First.{firstFrom}
 
--- ---- one step of the search
+-- ---- nothing to search
 
 pub first-nil : (t : ℕ → Bool) (c : ℕ) → firstFrom t 0 c ≡ c
 unfolding firstFrom
 first-nil t c = refl
-
-pub first-met : (t : ℕ → Bool) (k c : ℕ) → 0 < k → t c ≡ true → firstFrom t k c ≡ c
-unfolding firstFrom
-first-met t zero c p e = absurd (omega arith)
-first-met t (suc k) c p e = rw e
-
-pub first-step : (t : ℕ → Bool) (k c : ℕ) → 0 < k → t c ≡ false → firstFrom t k c ≡ firstFrom t (k - 1) (c + 1)
-unfolding firstFrom
-first-step t zero c p e = absurd (omega arith)
-first-step t (suc k) c p e =
-    let d : suc k - 1 ≡ k = omega arith in
-    rw (e, d)
 
 -- ---- what it finds
 

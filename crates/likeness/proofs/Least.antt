@@ -3,15 +3,15 @@
 -- Assumes nothing.
 use mathlib.Core.Path.{_≡_, refl, sym, ap, ap₂, fun-ext, _∙_}
 use mathlib.Core.Bool.{Bool, true, false, cond, _&&_, and-false}
-use Prim.Native.Nat.{ℕ, _+_, _-_, _*_, _≤_, _<_, min, max}
-use native.Mathlib.Nat.{max-comm, eq-zero-or-pos, lt-of-not-le}
+use Prim.Native.Nat.{ℕ, _*_, _≤_, _<_, min, max}
+use native.Mathlib.Nat.{max-comm, eq-zero-or-pos, lt-of-not-le, le-antisymm}
 use native.Mathlib.Decide.{decLe}
 use native.Mathlib.Omega.{arith}
 use mathlib.Core.Logic.{⊎-elim}
 use lib.Dec.{leb}
 use borrow.Author.Tests.{le-leb, lt-leb, leb-true}
 use Rattle.laws.specs.First.{firstFrom}
-use Rattle.laws.proofs.First.{first-nil, first-met, first-within, first-least, first-passes}
+use Rattle.laws.proofs.First.{first-nil, first-within, first-least, first-passes}
 use Rattle.laws.proofs.Tests.{same-test, test-failed}
 use Rattle.likeness.specs.Measures.{goodMeasure, goodThreshold, isSimilar}
 use Rattle.likeness.specs.Sizes.{isSearched}
@@ -55,6 +55,20 @@ module _ (m p q x y : ℕ) (known : goodMeasure m ≡ true) (good : goodThreshol
           (λ (l : 0 < n). first-passes (isSimilar m p q x y) n 1 n l (omega arith) (rw e at (similar-whole m p q x y known good)) .0)
           (eq-zero-or-pos n)
 
+  -- a count up to it that is not similar is below it
+  pub least-not-yet : (c : ℕ) → c ≤ leastCount m p q x y → isSimilar m p q x y c ≡ false → c < leastCount m p q x y
+  least-not-yet c l f = by-order (decLe (leastCount m p q x y) c)
+    where
+      by-order : Dec (leastCount m p q x y ≤ c) → c < leastCount m p q x y
+      by-order (yes n) = absurd (test-failed _ f (rw (le-antisymm l n) least-similar))
+      by-order (no g) = lt-of-not-le g
+
+  -- it is at most the larger size, which is always similar; 1 where both sizes are 0
+  pub least-most : leastCount m p q x y ≤ max 1 (max x y)
+  least-most =
+      least-le (max 1 (max x y)) (omega arith)
+      (similar-mono m p q x y (max x y) (max 1 (max x y)) (omega arith) (similar-whole m p q x y known good))
+
   -- a shared count of at least 1 is similar exactly if the least count is at most it
   pub least-decides : (c : ℕ) → 1 ≤ c → isSimilar m p q x y c ≡ leb (leastCount m p q x y) c
   least-decides c l =
@@ -69,18 +83,6 @@ module _ (m p q x y : ℕ) (known : goodMeasure m ≡ true) (good : goodThreshol
       (λ (z : c ≡ 0). rw z (similar-none m p q x y l k ∙ sym (lt-leb _ _ least-pos)))
       (λ (n : 0 < c). least-decides c n)
       (eq-zero-or-pos c)
-
--- ---- the search's end
-
--- with every count below the larger size tried, that size is the first; without features it is 1
-pub least-last : (m p q x y c : ℕ) → goodMeasure m ≡ true → goodThreshold p q ≡ true → max x y ≤ c → c ≤ max 1 (max x y) → 1 ≤ c
-    → firstFrom (isSimilar m p q x y) (max x y + 1 - c) c ≡ c
-least-last m p q x y c k g l n o =
-    ⊎-elim
-    (λ (z : max x y ≡ 0). let e : max x y + 1 - c ≡ 0 = omega arith in rw e (first-nil (isSimilar m p q x y) c))
-    (λ (s : 0 < max x y). let e : max x y ≡ c = omega arith in
-    first-met (isSimilar m p q x y) (max x y + 1 - c) c (omega arith) (rw e at (similar-whole m p q x y k g)))
-    (eq-zero-or-pos (max x y))
 
 -- ---- at a searched size
 

@@ -47,13 +47,6 @@ fn smaller(a: u64, b: u64) -> u64
     if a < b { a } else { b }
 }
 
-// The larger of the two.
-fn larger(a: u8, b: u8) -> u8
-    ensures { λ r. ⌜ r ≡ max a b ⌝ }
-{
-    if a < b { b } else { a }
-}
-
 // The rule's inequality for each measure, at any p and q.
 fn reaches_threshold(measure: u8, p: u16, q: u16, x: u8, y: u8, c: u8) -> bool
     ensures { λ r. ⌜ r ≡ reaches (measureOf measure) p q x y c ⌝ }
@@ -66,10 +59,29 @@ fn reaches_threshold(measure: u8, p: u16, q: u16, x: u8, y: u8, c: u8) -> bool
     match measure {
         1 => 2 * c * q >= p * (x + y),
         2 => c * q >= p * minus(x + y, c),
+        // c²q² ≥ p²xy, as the leaflet has it
         3 => c * c * q * q >= p * p * x * y,
         4 => c * q >= p * smaller(x, y),
         _ => false,
     }
+}
+
+// The least count of shared features: the first c from 1 upward that passes that line. One does by the larger size, or 1 does. 0 where the measure or the
+// threshold is bad.
+pub fn least_count(measure: u8, p: u16, q: u16, x: u8, y: u8) -> u8
+    ensures { λ r. ⌜ r ≡ leastCount measure p q x y ⌝ }
+{
+    if !good_measure(measure) {
+        return 0;
+    }
+    if !good_threshold(p, q) {
+        return 0;
+    }
+    let mut c: u8 = 1;
+    while !reaches_threshold(measure, p, q, x, y, c) {
+        c += 1;
+    }
+    c
 }
 
 // Whether two names of x and y features, with so many shared, are similar; never where the measure or the threshold is bad.
@@ -105,28 +117,6 @@ pub fn searched(measure: u8, p: u16, q: u16, x: u8, y: u8) -> bool
         4 => true,
         _ => false,
     }
-}
-
-// The least count of shared features that is similar, tried upward from 1. The larger size is always enough, so it needs no try. 0 where the
-// measure or the threshold is bad.
-pub fn least_count(measure: u8, p: u16, q: u16, x: u8, y: u8) -> u8
-    ensures { λ r. ⌜ r ≡ leastCount measure p q x y ⌝ }
-{
-    if !good_measure(measure) {
-        return 0;
-    }
-    if !good_threshold(p, q) {
-        return 0;
-    }
-    let most = larger(x, y);
-    let mut c: u8 = 1;
-    while c < most {
-        if reaches_threshold(measure, p, q, x, y, c) {
-            return c;
-        }
-        c += 1;
-    }
-    c
 }
 
 // The greatest common divisor, by Euclid's falling remainders; that of 0 and 0 is 0.

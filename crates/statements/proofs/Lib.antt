@@ -9,3 +9,4 @@ pub mod Frames
 pub mod Program
 pub mod Former
 pub mod LogFrames
+pub mod Leaflet

@@ -3,3 +3,4 @@ pub mod Demands
 pub mod Program
 pub mod Former
 pub mod LogFrames
+pub mod Leaflet

@@ -1,27 +1,24 @@
--- `likeness::least_count` meets its contract: what is left to try from c on has the same first, and the larger size passes untried.
+-- `likeness::least_count` meets its contract: c does not pass the least count, and stops at it, since nothing below it is similar and it is.
 -- Assumes nothing.
 use mathlib.Core.Path.{_≡_, sym, _∙_}
-use mathlib.Core.Bool.{true}
-use Prim.Native.Nat.{_+_, _-_, _≤_, max}
+use mathlib.Core.Bool.{Bool, true, false}
+use Prim.Native.Nat.{_-_, _≤_, _<_}
+use native.Mathlib.Nat.{le-antisymm}
 use native.Mathlib.Omega.{arith}
 use borrow.Author.Needs.{needs}
 use borrow.Author.Tests.{not-true, not-false}
-use Rattle.laws.specs.First.{firstFrom}
-use Rattle.laws.proofs.First.{first-met, first-step}
 use Rattle.likeness.specs.Measures.{goodMeasure, goodThreshold, isSimilar}
 use Rattle.likeness.specs.Least.{leastCount}
 use Rattle.likeness.proofs.Measures.{similar-reaches}
-use Rattle.likeness.proofs.Least.{least-first, least-last, least-bad-measure, least-bad-threshold}
+use Rattle.likeness.proofs.Least.{least-pos, least-le, least-not-yet, least-most, least-bad-measure, least-bad-threshold}
 use Rattle.likeness.proofs.least_count.Statement.{statement}
 use Rattle.likeness.proofs.least_count.Tie as tie
 
--- the first of those from c on is the least count
 abbrev Inv-loop : tie.InvT-loop
-Inv-loop measure p q x y most c₀ c =
-    (1 ≤ c) × (c ≤ max 1 most) × (firstFrom (isSimilar measure p q x y) (most + 1 - c) c ≡ leastCount measure p q x y)
+Inv-loop measure p q x y c₀ c = (1 ≤ c) × (c ≤ leastCount measure p q x y)
 
 abbrev μ-loop : tie.MeasureT-loop
-μ-loop measure p q x y most c₀ c = most - c
+μ-loop measure p q x y c₀ c = leastCount measure p q x y - c
 
 good-measure-requires : tie.Need-good-measure-requires Inv-loop μ-loop
 good-measure-requires c κs = search needs
@@ -37,9 +34,6 @@ returns-2 : tie.Need-returns-2 Inv-loop μ-loop
 returns-2 c =
     sym (least-bad-threshold _ _ _ _ _ (sym (c .before .good-threshold .ensures) ∙ not-true _ (c .if2 .taken)))
 
-larger-requires : tie.Need-larger-requires Inv-loop μ-loop
-larger-requires c κs = search needs
-
 -- past the two tests
 module _ (c : tie.Else2 Inv-loop μ-loop) where
   known : goodMeasure (c .before .before .before .before .args .measure) ≡ true
@@ -49,54 +43,43 @@ module _ (c : tie.Else2 Inv-loop μ-loop) where
   judged = sym (c .before .good-threshold .ensures) ∙ not-false _ (c .if2 .left)
 
 loop-holds : tie.Need-loop-holds Inv-loop μ-loop
-loop-holds c =
-    let a = c .before .before .before .before .before .args in
-    let e : c .larger .result + 1 - 1 ≡ max (a .x) (a .y) = omega (arith, c .larger .ensures) in
-    (omega arith, omega arith, rw e (sym (least-first (a .measure) (a .p) (a .q) (a .x) (a .y) (known (c .before)) (judged (c .before)))))
+loop-holds c = (omega arith, least-pos _ _ _ _ _ (known c) (judged c))
 
 reaches-threshold-requires : tie.Need-reaches-threshold-requires Inv-loop μ-loop
 reaches-threshold-requires c κs = search needs
 
 -- what the turn's test says of c
 tried : (c : tie.After-reaches-threshold Inv-loop μ-loop) →
-    let a = c .before .before .before .before .before .before .before .before .args in
-    isSimilar (a .measure) (a .p) (a .q) (a .x) (a .y) (c .before .before .loop .c) ≡ c .reaches-threshold .result
+    let a = c .before .before .before .before .before .before .args in
+    isSimilar (a .measure) (a .p) (a .q) (a .x) (a .y) (c .before .loop .c) ≡ c .reaches-threshold .result
 tried c =
-    let a = c .before .before .before .before .before .before .before .before .args in
-    let n = c .before .before .loop .c in
-    rw (c .reaches-threshold .ensures)
-    (similar-reaches (a .measure) (a .p) (a .q) (a .x) (a .y) n (judged (c .before .before .before .before)))
+    rw (c .reaches-threshold .ensures) (similar-reaches _ _ _ _ _ (c .before .loop .c) (judged (c .before .before)))
+
+-- where it fails, c is not yet the least count
+below : (c : tie.Then3 Inv-loop μ-loop) →
+    let a = c .before .before .before .before .before .before .before .args in
+    c .before .before .loop .c < leastCount (a .measure) (a .p) (a .q) (a .x) (a .y)
+below c =
+    let e = c .before .before .before in
+    least-not-yet _ _ _ _ _ (known e) (judged e) _ (c .before .before .loop .inv .1) (tried (c .before) ∙ not-true _ (c .if3 .taken))
+
+add-c : tie.Need-add-c Inv-loop μ-loop
+add-c c =
+    let e = c .before .before .before in
+    let a = e .before .before .before .before .args in
+    omega (arith, below c, least-most (a .measure) (a .p) (a .q) (a .x) (a .y) (known e) (judged e), e .before .before .before .before .fits)
+
+loop-less : tie.Need-loop-less Inv-loop μ-loop
+loop-less c = omega (arith, below c)
+
+loop-again : tie.Need-loop-again Inv-loop μ-loop
+loop-again c = (omega arith, omega (arith, below c))
 
 returns-3 : tie.Need-returns-3 Inv-loop μ-loop
 returns-3 c =
-    let n = c .before .before .before .loop .c in
-    let k = c .before .before .before .before .larger .result + 1 - n in
-    sym (first-met _ k n (omega arith) (tried (c .before) ∙ c .if3 .taken)) ∙ c .before .before .before .loop .inv .2
-
-add-c : tie.Need-add-c Inv-loop μ-loop
-add-c c = omega (arith, c .before .before .before .before .larger .ok)
-
-loop-less : tie.Need-loop-less Inv-loop μ-loop
-loop-less c = omega arith
-
-loop-again : tie.Need-loop-again Inv-loop μ-loop
-loop-again c =
-    let n = c .before .before .before .loop .c in
-    let k = c .before .before .before .before .larger .result + 1 in
-    let e : k - (n + 1) ≡ k - n - 1 = omega arith in (
-      omega arith,
-      omega arith,
-      rw e (sym (first-step _ (k - n) n (omega arith) (tried (c .before) ∙ c .if3 .left)) ∙ c .before .before .before .loop .inv .2),
-    )
-
-returns-4 : tie.Need-returns-4 Inv-loop μ-loop
-returns-4 c =
-    let a = c .before .before .before .before .before .before .before .args in
-    let n = c .before .loop .c in
-    let l = c .before .before .larger .ensures in
-    let h = least-last (a .measure) (a .p) (a .q) (a .x) (a .y) n (known (c .before .before .before)) (judged (c .before .before .before))
-    (omega arith) (omega arith) (omega arith) in
-    sym h ∙ rw l at (c .before .loop .inv .2)
+    le-antisymm (c .before .before .loop .inv .1)
+    (least-le _ _ _ _ _ (known (c .before .before .before)) (judged (c .before .before .before)) (c .before .before .loop .c) (c .before .before .loop .inv .0)
+    (tried (c .before) ∙ not-false _ (c .if3 .left)))
 
 pub least-count-spec : {M : Type 1} → statement M
 least-count-spec =
@@ -108,11 +91,9 @@ least-count-spec =
     returns
     good-threshold-requires
     returns-2
-    larger-requires
     loop-holds
     reaches-threshold-requires
-    returns-3
     add-c
     loop-less
     loop-again
-    returns-4)
+    returns-3)
