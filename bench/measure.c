@@ -151,6 +151,7 @@ struct scene {
     size_t bytes;
     uint8_t log[LINES * (13 + 2 * LONGEST)];
     size_t logged; /* its bytes; 0 where the scene has no log */
+    bool changes;  /* names are added and withdrawn */
     uint32_t words[WORDS];
     size_t total;
     uint64_t triples[POSTINGS];
@@ -162,6 +163,7 @@ struct scene {
 /* Where searches, builds and imports write. */
 static uint32_t ids[NAMES], shared[NAMES], sizes[NAMES], built[WORDS];
 static uint64_t copies[COPIES][POSTINGS];
+static uint32_t indexes[COPIES][WORDS];
 enum { CASE, VALUE, ID, WEEK, SUM, COUNT, COLUMNS };
 static uint32_t imported[COLUMNS][LINES];
 
@@ -332,7 +334,50 @@ static uint64_t rust_sort(struct scene *s)
 {
     for (size_t at = 0; at < COPIES; at++)
         twin_sort(copies[at], s->postings);
-    return 1;
+    return COPIES;
+}
+
+/* Each copy of the index has or lacks another name, in a slice of the whole index's length. */
+static uint16_t changed_id(const struct scene *s, size_t copy)
+{
+    return (uint16_t)(copy * s->names / COPIES * 251 + 7);
+}
+
+static uint64_t proved_add(struct scene *s)
+{
+    uint64_t sum = 0;
+    for (size_t at = 0; at < COPIES; at++) {
+        const char *name = s->name[at * s->names / COPIES];
+        sum += rushgirdle_add(indexes[at], s->total, changed_id(s, at), (const uint8_t *)name, strlen(name)) == 0;
+    }
+    return sum;
+}
+
+static uint64_t proved_withdraw(struct scene *s)
+{
+    uint64_t sum = 0;
+    for (size_t at = 0; at < COPIES; at++)
+        sum += rushgirdle_withdraw(indexes[at], s->total, changed_id(s, at)) == 0;
+    return sum;
+}
+
+/* What the copies hold before the clock starts. */
+static void copy_triples(struct scene *s)
+{
+    for (size_t at = 0; at < COPIES; at++)
+        memcpy(copies[at], s->triples, s->postings * sizeof *s->triples);
+}
+
+static void copy_index(struct scene *s)
+{
+    for (size_t at = 0; at < COPIES; at++)
+        memcpy(indexes[at], s->words, s->total * sizeof *s->words);
+}
+
+static void copy_index_less(struct scene *s)
+{
+    copy_index(s);
+    proved_withdraw(s);
 }
 
 /* ---- answers compared */
@@ -463,21 +508,22 @@ static double now(void)
 
 struct timed {
     contender *run;
-    uint64_t per, expected; /* how many searches or builds a run is, and what it adds up to */
-    bool sorts;
+    uint64_t per, expected; /* how many searches, builds or changes a run is, and what it adds up to */
+    void (*copy)(struct scene *); /* before each run of one that changes what it is given */
     unsigned times;
     double least; /* seconds for one */
 };
 
-/* One sample: as many runs as make half a millisecond, or the copies sorted once. */
+/* One sample: as many runs as make half a millisecond, or the copies changed once. */
 static void sample(struct timed *t, struct scene *s)
 {
-    if (t->sorts) {
-        for (size_t at = 0; at < COPIES; at++)
-            memcpy(copies[at], s->triples, s->postings * sizeof *s->triples);
+    if (t->copy) {
+        t->copy(s);
         double from = now();
-        t->run(s);
-        double took = (now() - from) / COPIES;
+        uint64_t sum = t->run(s);
+        double took = (now() - from) / (double)t->per;
+        if (sum != t->expected)
+            fail("%s: a contender answers otherwise while it is timed", s->label);
         t->least = took < t->least ? took : t->least;
         return;
     }
@@ -497,11 +543,15 @@ static void sample(struct timed *t, struct scene *s)
     }
 }
 
-enum { GOOD, TWIN_GOOD, SIM, SEARCH, TWIN_SEARCH, CHECK, TWIN_CHECK, BUILD, TWIN_BUILD, SORT, IMPORT, CONTENDERS };
+enum { GOOD, TWIN_GOOD, SIM, SEARCH, TWIN_SEARCH, CHECK, TWIN_CHECK, BUILD, TWIN_BUILD, SORT, IMPORT, ADD, WITHDRAW, CONTENDERS };
 
-/* In a scene with a log the import takes turns with search_good and SimString; elsewhere all but the import do. */
+/* In a scene with a log the import takes turns with search_good and SimString, in one with changes these with the build and the check; elsewhere
+ * all others do. */
 static bool takes_part(int which, const struct scene *s)
 {
+    bool change = which == ADD || which == WITHDRAW;
+    if (s->changes || change)
+        return s->changes && (change || which == BUILD || which == CHECK);
     if (which == SIM)
         return s->simstring;
     return which == GOOD || (which == IMPORT) == (s->logged > 0);
@@ -510,17 +560,19 @@ static bool takes_part(int which, const struct scene *s)
 static void take_times(struct scene *s, double *seconds, unsigned rounds)
 {
     struct timed t[CONTENDERS] = {
-        [GOOD] = { proved_search_good, s->queries, s->rows, false, 1, 1e9 },
-        [TWIN_GOOD] = { twin_search_good, s->queries, s->rows, false, 1, 1e9 },
-        [SIM] = { by_simstring, s->queries, s->rows - s->lost, false, 1, 1e9 },
-        [SEARCH] = { proved_search, s->queries, s->rows, false, 1, 1e9 },
-        [TWIN_SEARCH] = { twin_check_search, s->queries, s->rows, false, 1, 1e9 },
-        [CHECK] = { proved_good, 1, 1, false, 1, 1e9 },
-        [TWIN_CHECK] = { twin_check, 1, 1, false, 1, 1e9 },
-        [BUILD] = { proved_build, 1, 1, false, 1, 1e9 },
-        [TWIN_BUILD] = { twin_builds, 1, 1, false, 1, 1e9 },
-        [SORT] = { rust_sort, 1, 1, true, 1, 1e9 },
-        [IMPORT] = { proved_import, s->queries, s->queries + s->pairs, false, 1, 1e9 },
+        [GOOD] = { proved_search_good, s->queries, s->rows, NULL, 1, 1e9 },
+        [TWIN_GOOD] = { twin_search_good, s->queries, s->rows, NULL, 1, 1e9 },
+        [SIM] = { by_simstring, s->queries, s->rows - s->lost, NULL, 1, 1e9 },
+        [SEARCH] = { proved_search, s->queries, s->rows, NULL, 1, 1e9 },
+        [TWIN_SEARCH] = { twin_check_search, s->queries, s->rows, NULL, 1, 1e9 },
+        [CHECK] = { proved_good, 1, 1, NULL, 1, 1e9 },
+        [TWIN_CHECK] = { twin_check, 1, 1, NULL, 1, 1e9 },
+        [BUILD] = { proved_build, 1, 1, NULL, 1, 1e9 },
+        [TWIN_BUILD] = { twin_builds, 1, 1, NULL, 1, 1e9 },
+        [SORT] = { rust_sort, COPIES, COPIES, copy_triples, 1, 1e9 },
+        [IMPORT] = { proved_import, s->queries, s->queries + s->pairs, NULL, 1, 1e9 },
+        [ADD] = { proved_add, COPIES, COPIES, copy_index_less, 1, 1e9 },
+        [WITHDRAW] = { proved_withdraw, COPIES, COPIES, copy_index, 1, 1e9 },
     };
     for (unsigned round = 0; round < rounds; round++)
         for (int k = 0; k < CONTENDERS; k++)
@@ -533,7 +585,7 @@ static void take_times(struct scene *s, double *seconds, unsigned rounds)
 /* ---- what is printed */
 
 /* How the labels of the rows begin that the goals are for. */
-static const char pool_rows[] = "256 pool names", log_rows[] = "1,024 lines";
+static const char pool_rows[] = "256 pool names", log_rows[] = "1,024 lines", change_rows[] = "one of 256 pool names";
 
 static struct {
     const char *what, *rows;
@@ -547,6 +599,8 @@ static struct {
     { "build / sort_unstable", pool_rows, BUILD, SORT, 3.0, 0, "" },
     { "a line of an import / search_good", log_rows, IMPORT, GOOD, 1.2, 0, "" },
     { "a line of an import / SimString", log_rows, IMPORT, SIM, 1.0, 0, "" },
+    { "an add / a build of all names", change_rows, ADD, BUILD, 0.5, 0, "" },
+    { "a withdrawal / a build of all names", change_rows, WITHDRAW, BUILD, 0.5, 0, "" },
 };
 
 static void note(const struct scene *s, const double *seconds)
@@ -597,6 +651,25 @@ static void measure_import(struct scene *s, unsigned rounds)
         printf("%.2f | %.2f |\n", t[SIM] * 1e6, t[IMPORT] / t[SIM]);
     else
         printf("- | - |\n");
+    fflush(stdout);
+    finish(s);
+}
+
+/* Names added to the others, and withdrawn: compared with the words of the build, and of a build without the name. */
+static void measure_changes(struct scene *s, unsigned rounds)
+{
+    double t[CONTENDERS];
+    ready(s);
+    copy_index_less(s);
+    if (proved_add(s) != COPIES)
+        fail("%s: an add is refused", s->label);
+    for (size_t at = 0; at < COPIES; at++)
+        if (memcmp(indexes[at], s->words, s->total * sizeof *s->words))
+            fail("%s: the words differ after an add", s->label);
+    take_times(s, t, rounds);
+    note(s, t);
+    printf("| %s | %.1f | %.1f | %.2f | %.1f | %.2f | %.1f |\n", s->label, t[BUILD] * 1e6, t[ADD] * 1e6, t[ADD] / t[BUILD],
+           t[WITHDRAW] * 1e6, t[WITHDRAW] / t[BUILD], t[CHECK] * 1e6);
     fflush(stdout);
     finish(s);
 }
@@ -657,6 +730,27 @@ static void log_of_pools(uint8_t measure_by, uint16_t p, uint16_t q, unsigned ro
     mistyped_queries(s, LINES);
     write_log(s);
     measure_import(s, rounds);
+}
+
+static void changed_pools(unsigned rounds)
+{
+    struct scene *s = begin(1, 1, 1, "one of 256 pool names");
+    register_pools(s);
+    s->changes = true;
+    measure_changes(s, rounds);
+}
+
+static void changed(size_t names, size_t length, bool equal, unsigned rounds)
+{
+    struct scene *s = begin(1, 1, 1, "one of %zu %snames of %zu bytes", names, equal ? "equal " : "", length);
+    state = 1;
+    for (s->names = 0; s->names < names; s->names++)
+        if (equal && s->names)
+            strcpy(s->name[s->names], s->name[0]);
+        else
+            long_name(s->name[s->names], length);
+    s->changes = true;
+    measure_changes(s, rounds);
 }
 
 static void worst(uint16_t p, uint16_t q, unsigned rounds)
@@ -720,6 +814,13 @@ int main(int count, char **given)
     puts("|---|---|---|---|---|---|---|---|---|");
     for (uint8_t by = 1; by <= 4; by++)
         log_of_pools(by, 7, 10, rounds);
+    puts("\nA name added to the others, or withdrawn, with the check of the index, beside a build of all of them:\n");
+    puts("| name | build, µs | add, µs | / build | withdrawal, µs | / build | check of the whole index, µs |");
+    puts("|---|---|---|---|---|---|---|");
+    changed_pools(rounds);
+    changed(16, 8, false, rounds);
+    changed(256, 64, false, rounds);
+    changed(256, 64, true, rounds);
     puts("\nThe goals, by the largest ratio of the rows of 256 pool names, and for the import of the rows of a log:\n");
     puts("| ratio | goal | largest | at | |\n|---|---|---|---|---|");
     for (size_t g = 0; g < sizeof goals / sizeof *goals; g++)

@@ -12,9 +12,10 @@ NUMBERS = {
     7: ('the search needs more touches than its allowance', 'give a larger --allowance, or leave it out'),
     8: ('there are more rows, words, bytes, outcomes or pairs than room is lent for', 'use a smaller register'),
     9: ("a register's id is not above the id of the line before", 'give each pool an id of its own'),
-    10: ('a register has more than 256 names; an import: a log has more than 1,024 lines', 'use a smaller register'),
+    10: ('a register has more than 256 names', 'use a smaller register'),
     11: ('a line is not a frame of its kind', 'this is no fault of your files: report it'),
     12: ('name or query holds a control character other than 0: a byte from 1 to 31, or 127', 'type it again without tabs and line feeds'),
+    13: ('a withdrawal: the id is not live', 'withdraw an id that a name has'),
 }
 
 UNKNOWN = ('a number that this desk does not know', 'report it')

@@ -18,7 +18,7 @@
  *   - What an answer tells a caller to read lies within what was lent: start + count is at most the number of words, rows at most the length of
  *     each column or of the list of rows, lines and pairs at most the length of each column of theirs, len at most the length of the buffer.
  *   - A refused search writes no row, a refused import no outcome and no pair, a refused read no byte of the name, a refused write no byte of the
- *     line. A refused build sets every word to 4294967295.
+ *     line, a refused add or withdrawal no word. A refused build sets every word to 4294967295.
  *   - No memory is taken, no pointer is kept, nothing is remembered from call to call: any number of threads may call at once.
  */
 #ifndef RUSHGIRDLE_H
@@ -42,12 +42,13 @@ enum rushgirdle_number {
     RUSHGIRDLE_THRESHOLD = 5,  /* not 1 <= p <= q <= 1000 */
     RUSHGIRDLE_NOT_GOOD = 6,   /* the words are no good index */
     RUSHGIRDLE_ALLOWANCE = 7,  /* the touches needed exceed the allowance */
-    RUSHGIRDLE_ROOM = 8,       /* search: more answers than rows lent; build: the index exceeds the words; frames: the line or the name exceeds its buffer;
+    RUSHGIRDLE_ROOM = 8,       /* search: more answers than rows lent; build, add: the index exceeds the words; frames: the line or the name exceeds its buffer;
                                 * import: more lines than places for outcomes, or more pairs than places for pairs */
-    RUSHGIRDLE_ORDER = 9,      /* a register id is not above the one before */
-    RUSHGIRDLE_FULL = 10,      /* build: a 257th name; import: a 1025th line */
+    RUSHGIRDLE_ORDER = 9,      /* a register id is not above the one before; add: the id is live */
+    RUSHGIRDLE_FULL = 10,      /* build: a 257th name; add: 256 names are live; import: a 1025th line */
     RUSHGIRDLE_MALFORMED = 11, /* not a frame of the kind that was asked for */
-    RUSHGIRDLE_CONTROL = 12    /* the name or query holds a control character other than 0: a byte from 1 to 31, or 127 */
+    RUSHGIRDLE_CONTROL = 12,   /* the name or query holds a control character other than 0: a byte from 1 to 31, or 127 */
+    RUSHGIRDLE_NOT_LIVE = 13   /* withdraw: the id is not live */
 };
 
 /* The measures. */
@@ -67,7 +68,7 @@ enum rushgirdle_case {
 };
 
 #define RUSHGIRDLE_MOST_NAMES 256    /* so many rows are enough for every search */
-#define RUSHGIRDLE_MOST_WORDS 84739  /* so many words are enough for every register: 3 + 256 + 4 * 16896 + 16896 */
+#define RUSHGIRDLE_MOST_WORDS 84739  /* so many words are enough for every register and every add: 3 + 256 + 4 * 16896 + 16896 */
 #define RUSHGIRDLE_LONGEST_NAME 255  /* so many bytes are enough for every name or query that is read from a line */
 #define RUSHGIRDLE_LONGEST_LINE 533  /* so many bytes are enough for every line that is written, its line feed included */
 #define RUSHGIRDLE_MOST_LINES 1024   /* so many places are enough for the outcomes of every log, and for its pairs */
@@ -76,6 +77,7 @@ enum rushgirdle_case {
 /* The bytes of stack that a call takes below its caller's own, the return address among them. A loader that looks for memcpy and memset at their
  * first call takes its own besides. */
 #define RUSHGIRDLE_STACK_BUILD 280000  /* rushgirdle_build */
+#define RUSHGIRDLE_STACK_UPKEEP 10000  /* rushgirdle_add, rushgirdle_withdraw */
 #define RUSHGIRDLE_STACK_INDEX 6000    /* rushgirdle_good, rushgirdle_list */
 #define RUSHGIRDLE_STACK_SEARCH 12000  /* rushgirdle_search */
 #define RUSHGIRDLE_STACK_ROWS 18000    /* rushgirdle_search_rows */
@@ -94,6 +96,22 @@ typedef struct {
 rushgirdle_build_answer rushgirdle_build(
     const uint8_t *register_bytes, size_t register_length,
     uint32_t *words, size_t words_length);
+
+/* Adds a name to an index under an id, in place. Answers 0, or the first that holds of 6, of 1, 2, 3, 12 for the name, 9 where the id is live (a
+ * name of the index has it), 10 where 256 names are live, 8 where the index that would result exceeds the words. Takes any words, however they
+ * came about, and checks the index each time.
+ *
+ * Where it answers 0, the words are the one good index of the names then live: those of before, each with the features that it stood for, and the
+ * one that was added; every word beyond it is 4294967295, whatever stood there. An index that fits is never refused with 8. Where the index came
+ * from a build and from such calls, its words are those of a build of the live names. A refusal changes no word. */
+uint8_t rushgirdle_add(
+    uint32_t *words, size_t words_length,
+    uint16_t id, const uint8_t *name, size_t name_length);
+
+/* Withdraws the name of an id from an index, in place. Answers 0, or the first that holds of 6, 13. Takes any words, and checks the index each time.
+ * Where it answers 0, the words are the one good index of the other names, each with the features that it stood for, and every word beyond it is
+ * 4294967295; withdrawing what was added gives the very words of before. A refusal changes no word. */
+uint8_t rushgirdle_withdraw(uint32_t *words, size_t words_length, uint16_t id);
 
 /* Whether the words are a good index, whatever they are. Words beyond the index are not looked at. */
 bool rushgirdle_good(const uint32_t *words, size_t words_length);

@@ -1,12 +1,13 @@
 /* The proved library behind the second program's protocols (second/README.md): one case a line in, one line out.
  *
- *     driver good|list|build|search|rows|import|frames
+ *     driver good|list|build|search|rows|import|frames|add|withdraw|calls
  *
  * `rows` is the protocol `search`, with the rows lent as records. Of an import's frames `frames` has the log line, 4C.
  *
  * What is lent stands between two guards and is filled before the call; what is only read is compared with a copy
- * after it. A touched guard or a changed input ends the program with status 3, a line that does not follow its
- * protocol with status 2. An empty slice is passed as a null pointer. */
+ * after it, and so are the words after an add or a withdrawal that is refused. A touched guard or a changed input ends the
+ * program with status 3, a line that does not follow its protocol with status 2. An empty slice is passed as a null
+ * pointer. */
 #include <stdint.h>
 #include <stdio.h>
 #include <stdlib.h>
@@ -110,10 +111,9 @@ static int digit(char c)
     return 'a' <= c && c <= 'f' ? c - 'a' + 10 : 99;
 }
 
-/* A number in decimal, or in hexadecimal after 0x. */
-static uint64_t number(const char *what, uint64_t most)
+/* The number of a text, in decimal, or in hexadecimal after 0x. */
+static uint64_t number_in(const char *at, const char *what, uint64_t most)
 {
-    const char *at = word(what);
     uint64_t base = 10, value = 0;
     if (at[0] == '0' && at[1] == 'x') {
         base = 16;
@@ -130,10 +130,14 @@ static uint64_t number(const char *what, uint64_t most)
     return value;
 }
 
-/* Bytes as hexadecimal pairs, or - for none. */
-static struct slice bytes(const char *what)
+static uint64_t number(const char *what, uint64_t most)
 {
-    const char *at = word(what);
+    return number_in(word(what), what, most);
+}
+
+/* The bytes of a text of hexadecimal pairs, or of - for none. */
+static struct slice bytes_in(const char *at, const char *what)
+{
     if (!strcmp(at, "-"))
         at = "";
     size_t digits = strlen(at);
@@ -150,8 +154,13 @@ static struct slice bytes(const char *what)
     return s;
 }
 
+static struct slice bytes(const char *what)
+{
+    return bytes_in(word(what), what);
+}
+
 /* All words that are left, as the 32-bit words of a slice. */
-static struct slice words(void)
+static struct slice lent_words(void)
 {
     size_t count = 0;
     for (const char *at = rest; *at;) {
@@ -165,16 +174,37 @@ static struct slice words(void)
     uint32_t *into = (uint32_t *)(s.block + GUARD);
     for (size_t i = 0; i < count; i++)
         into[i] = (uint32_t)number("word", UINT32_MAX);
+    return s;
+}
+
+/* The same, only to be read. */
+static struct slice words(void)
+{
+    struct slice s = lent_words();
     keep(&s);
     return s;
 }
 
-static void end(void)
+/* Whether there is a word left. */
+static int more(void)
 {
     while (*rest == ' ')
         rest++;
-    if (*rest)
+    return *rest != 0;
+}
+
+static void end(void)
+{
+    if (more())
         refuse("one word too many");
+}
+
+/* Each word of a slice, with a space before it. */
+static void print_words(const struct slice *s)
+{
+    for (size_t i = 0; i < s->bytes / sizeof(uint32_t); i++)
+        printf(" %u", ((uint32_t *)part(s))[i]);
+    putchar('\n');
 }
 
 static void print_bytes(const struct slice *s)
@@ -224,10 +254,77 @@ static void build(void)
     check_slice(&lines);
     check_slice(&index);
     printf("%u %u", (unsigned)a.number, (unsigned)a.line);
-    for (size_t i = 0; i < room; i++)
-        printf(" %u", ((uint32_t *)part(&index))[i]);
-    putchar('\n');
+    print_words(&index);
     drop(&lines);
+    drop(&index);
+}
+
+/* One call on the words: an add where there is a name, and otherwise a withdrawal. Its number. */
+static unsigned upkeep(struct slice *index, uint16_t id, struct slice *name)
+{
+    keep(index);
+    unsigned given = name ? rushgirdle_add(part(index), index->bytes / 4, id, part(name), name->bytes)
+                          : rushgirdle_withdraw(part(index), index->bytes / 4, id);
+    if (!given) { /* the words were to be written */
+        free(index->copy);
+        index->copy = NULL;
+    }
+    check_slice(index);
+    free(index->copy);
+    index->copy = NULL;
+    if (name) {
+        check_slice(name);
+        drop(name);
+    }
+    return given;
+}
+
+static void add(void)
+{
+    uint16_t id = (uint16_t)number("id", UINT16_MAX);
+    struct slice name = bytes("name"), index = lent_words();
+    end();
+    printf("%u", upkeep(&index, id, &name));
+    print_words(&index);
+    drop(&index);
+}
+
+static void withdraw(void)
+{
+    uint16_t id = (uint16_t)number("id", UINT16_MAX);
+    struct slice index = lent_words();
+    end();
+    printf("%u", upkeep(&index, id, NULL));
+    print_words(&index);
+    drop(&index);
+}
+
+/* A run from what a build of no register leaves: +ID:NAME is an add, -ID a withdrawal. */
+static void calls(void)
+{
+    size_t room = (size_t)number("length", SIZE_MAX / 8);
+    struct slice index = slice_of(room * sizeof(uint32_t), LENT);
+    const char *between = "";
+    rushgirdle_build(NULL, 0, part(&index), room);
+    check_slice(&index);
+    for (; more(); between = " ") {
+        char *call = word("call"), *colon = strchr(call, ':');
+        unsigned given;
+        if (*call == '+' && colon) {
+            *colon = 0;
+            uint16_t id = (uint16_t)number_in(call + 1, "id", UINT16_MAX);
+            struct slice name = bytes_in(colon + 1, "name");
+            given = upkeep(&index, id, &name);
+        } else if (*call == '-') {
+            given = upkeep(&index, (uint16_t)number_in(call + 1, "id", UINT16_MAX), NULL);
+        } else {
+            refuse("neither an add nor a withdrawal");
+        }
+        printf("%s%u", between, given);
+    }
+    for (size_t i = 0; i < room; i++, between = " ")
+        printf("%s%u", between, ((uint32_t *)part(&index))[i]);
+    putchar('\n');
     drop(&index);
 }
 
@@ -490,7 +587,7 @@ int main(int count, char **given)
 {
     static const struct { const char *name; void (*answer)(void); } kinds[] = {
         { "good", good }, { "list", list }, { "build", build }, { "search", search }, { "rows", rows },
-        { "import", import }, { "frames", frames },
+        { "import", import }, { "frames", frames }, { "add", add }, { "withdraw", withdraw }, { "calls", calls },
     };
     for (size_t k = 0; count == 2 && k < sizeof kinds / sizeof *kinds; k++) {
         if (strcmp(given[1], kinds[k].name))
@@ -509,6 +606,6 @@ int main(int count, char **given)
         free(text);
         return fflush(stdout) ? 4 : 0;
     }
-    fputs("usage: driver good|list|build|search|rows|import|frames\n", stderr);
+    fputs("usage: driver good|list|build|search|rows|import|frames|add|withdraw|calls\n", stderr);
     return 2;
 }

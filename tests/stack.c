@@ -67,7 +67,7 @@ static size_t need(void (*call)(void), any *function)
 static char lines[RUSHGIRDLE_MOST_NAMES * LINE + 1], logged[RUSHGIRDLE_MOST_LINES * (LINE + 4) + 1];
 static size_t lines_length, logged_length;
 static uint8_t query[NAME];
-static uint32_t words[RUSHGIRDLE_MOST_WORDS], built[RUSHGIRDLE_MOST_WORDS];
+static uint32_t words[RUSHGIRDLE_MOST_WORDS], built[RUSHGIRDLE_MOST_WORDS], fewer[RUSHGIRDLE_MOST_WORDS]; /* `fewer` has not the last name */
 static uint32_t ids[RUSHGIRDLE_MOST_NAMES], shared[RUSHGIRDLE_MOST_NAMES], sizes[RUSHGIRDLE_MOST_NAMES];
 static rushgirdle_row rows[RUSHGIRDLE_MOST_NAMES];
 static uint32_t cases[RUSHGIRDLE_MOST_LINES], values[RUSHGIRDLE_MOST_LINES];
@@ -110,10 +110,22 @@ static void register_of(int equal)
         lines_length += (size_t)sprintf(lines + lines_length, "\n");
     }
     wanted(rushgirdle_build((const uint8_t *)lines, lines_length, words, RUSHGIRDLE_MOST_WORDS).number == 0, "a register is refused");
+    memcpy(fewer, words, sizeof fewer);
+    wanted(rushgirdle_withdraw(fewer, RUSHGIRDLE_MOST_WORDS, RUSHGIRDLE_MOST_NAMES - 1) == 0, "the last name is not withdrawn");
     log_of(2);
 }
 
 static void call_build(void) { CALLEE(rushgirdle_build)((const uint8_t *)lines, lines_length, built, RUSHGIRDLE_MOST_WORDS); }
+static void call_add(void)
+{
+    memcpy(built, fewer, sizeof built);
+    CALLEE(rushgirdle_add)(built, RUSHGIRDLE_MOST_WORDS, RUSHGIRDLE_MOST_NAMES, query, NAME);
+}
+static void call_withdraw(void)
+{
+    memcpy(built, words, sizeof built);
+    CALLEE(rushgirdle_withdraw)(built, RUSHGIRDLE_MOST_WORDS, RUSHGIRDLE_MOST_NAMES - 1);
+}
 static void call_good(void) { CALLEE(rushgirdle_good)(words, RUSHGIRDLE_MOST_WORDS); }
 static void call_list(void) { CALLEE(rushgirdle_list)(words, RUSHGIRDLE_MOST_WORDS, NAME + 2, words[4 + RUSHGIRDLE_MOST_NAMES]); }
 static void call_search(void)
@@ -191,6 +203,15 @@ int main(void)
         TRY(build);
     }
     HOLDS(RUSHGIRDLE_STACK_BUILD);
+
+    for (int equal = 0; equal <= 1; equal++) {
+        register_of(equal);
+        TRY(add);
+        wanted(rushgirdle_add(built, RUSHGIRDLE_MOST_WORDS, RUSHGIRDLE_MOST_NAMES, query, NAME) == 0, "a name is not added");
+        TRY(withdraw);
+        wanted(rushgirdle_withdraw(built, RUSHGIRDLE_MOST_WORDS, RUSHGIRDLE_MOST_NAMES - 1) == 0, "a name is not withdrawn");
+    }
+    HOLDS(RUSHGIRDLE_STACK_UPKEEP);
 
     for (int equal = 0; equal <= 1; equal++) {
         register_of(equal);

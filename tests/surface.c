@@ -1,4 +1,4 @@
-/* Every function of include/rushgirdle.h, at the edges: each number from 0 to 12, every field, every lent element before, in and after what is
+/* Every function of include/rushgirdle.h, at the edges: each number from 0 to 13, every field, every lent element before, in and after what is
  * written, and NULL with length 0; then once more with every slice just before memory that cannot be touched. What is expected was worked out by
  * hand from docs/RULE.md. Prints what fails, and at the end 'N passed, M failed'. */
 #define _DEFAULT_SOURCE
@@ -49,6 +49,21 @@ static int all_bytes(const uint8_t *b, size_t from, size_t to, uint8_t value)
         if (b[i] != value)
             return 0;
     return 1;
+}
+
+/* 256 lines of names of 64 bytes, which have the most postings; how many bytes they are */
+static char most[256 * 137 + 1];
+
+static size_t most_lines(void)
+{
+    int at = 0;
+    for (unsigned i = 0; i < 256; i++) {
+        at += sprintf(most + at, "4E%04X40", i);
+        for (unsigned k = 0; k < 64; k++)
+            at += sprintf(most + at, "%02X", k % 2 == 0 ? 128 + i % 16 + 16 * (k / 2 % 8) : 128 + i / 16 + 16 * (k / 16));
+        at += sprintf(most + at, "\n");
+    }
+    return (size_t)at;
 }
 
 static rushgirdle_build_answer build(const char *text, size_t room)
@@ -150,19 +165,12 @@ static void test_build(void)
     EXPECT(all_words(words, 0, RUSHGIRDLE_MOST_WORDS, BLANK));
 
     /* 256 names of 64 bytes have the most postings; the index takes 3+N+4D+P words, and a word less gives 8 */
-    static char most[256 * 137 + 1];
-    at = 0;
-    for (unsigned i = 0; i < 256; i++) {
-        at += sprintf(most + at, "4E%04X40", i);
-        for (unsigned k = 0; k < 64; k++)
-            at += sprintf(most + at, "%02X", k % 2 == 0 ? 128 + i % 16 + 16 * (k / 2 % 8) : 128 + i / 16 + 16 * (k / 16));
-        at += sprintf(most + at, "\n");
-    }
-    b = rushgirdle_build((const uint8_t *)most, (size_t)at, words, RUSHGIRDLE_MOST_WORDS);
+    size_t length = most_lines();
+    b = rushgirdle_build((const uint8_t *)most, length, words, RUSHGIRDLE_MOST_WORDS);
     EXPECT(b.number == 0 && words[0] == 256 && words[2] == 16896 && rushgirdle_good(words, RUSHGIRDLE_MOST_WORDS));
     size_t total = 3 + 256 + 4 * (size_t)words[1] + 16896;
-    EXPECT(rushgirdle_build((const uint8_t *)most, (size_t)at, words, total).number == 0);
-    EXPECT(rushgirdle_build((const uint8_t *)most, (size_t)at, words, total - 1).number == 8);
+    EXPECT(rushgirdle_build((const uint8_t *)most, length, words, total).number == 0);
+    EXPECT(rushgirdle_build((const uint8_t *)most, length, words, total - 1).number == 8);
 }
 
 static void test_good(void)
@@ -209,6 +217,204 @@ static void test_list(void)
     EXPECT(l.start == 0 && l.count == 0);
     l = rushgirdle_list(NULL, 0, 3, 16641);
     EXPECT(l.start == 0 && l.count == 0);
+}
+
+/* ---- adding and withdrawing */
+
+/* A under 5 and under 9, the example of the rule; under 9 alone; under 5, 6 and 9 */
+static const uint32_t both[23] = {2, 3, 6, 1283, 2307, 3, 16641, 0, 2, 3, 4259841, 2, 2, 3, 1090519041, 4, 2, 5, 9, 5, 9, 5, 9};
+static const uint32_t nine[19] = {1, 3, 3, 2307, 3, 16641, 0, 1, 3, 4259841, 1, 1, 3, 1090519041, 2, 1, 9, 9, 9};
+static const uint32_t three[27] = {
+    3, 3, 9, 1283, 1539, 2307, 3, 16641, 0, 3, 3, 4259841, 3, 3, 3, 1090519041, 6, 3, 5, 6, 9, 5, 6, 9, 5, 6, 9};
+static const uint32_t no_names[3] = {0, 0, 0};
+
+/* the words of an index, in a slice of that length with others beyond; and whether that is what stands there, and nothing else is written */
+static void lend(const uint32_t *index, size_t n, size_t length, uint32_t beyond)
+{
+    fill_words(words, ROOM);
+    for (size_t i = 0; i < length; i++)
+        words[i] = i < n ? index[i] : beyond;
+}
+
+static int stand(const uint32_t *index, size_t n, size_t length, uint32_t beyond)
+{
+    return memcmp(words, index, n * sizeof *words) == 0 && all_words(words, n, length, beyond) && all_words(words, length, ROOM, KEPT);
+}
+
+static unsigned add(size_t length, unsigned id, const char *name)
+{
+    return rushgirdle_add(words, length, (uint16_t)id, (const uint8_t *)name, strlen(name));
+}
+
+/* an add to the words of the example, in a slice of that length, has this number and changes no word */
+static int add_refused(size_t length, unsigned id, const char *name, size_t name_length, unsigned number)
+{
+    lend(both, 23, length, 7);
+    return rushgirdle_add(words, length, (uint16_t)id, (const uint8_t *)name, name_length) == number && stand(both, 23, length, 7);
+}
+
+static void test_add(void)
+{
+    /* the example of the rule: 5 goes and comes back, and then 9 goes as well */
+    lend(both, 23, 25, 7);
+    EXPECT(rushgirdle_withdraw(words, 25, 5) == 0 && stand(nine, 19, 25, BLANK));
+    EXPECT(add(25, 5, "A") == 0 && stand(both, 23, 25, BLANK));
+    EXPECT(rushgirdle_withdraw(words, 25, 5) == 0 && rushgirdle_withdraw(words, 25, 9) == 0 && stand(no_names, 3, 25, BLANK));
+    lend(no_names, 3, 18, 7);
+    EXPECT(add(18, 9, "A") == 8 && stand(no_names, 3, 18, 7));
+    lend(no_names, 3, 19, 7);
+    EXPECT(add(19, 9, "A") == 0 && stand(nine, 19, 19, BLANK));
+
+    /* what a build leaves, and the words of a build of both */
+    rushgirdle_build_answer b = build("", 25);
+    EXPECT(b.number == 0 && add(25, 2, "A") == 0 && add(25, 1, "A") == 0 && stand(two_words, 23, 25, BLANK));
+
+    /* a third name takes a name word and three postings; rubbish beyond goes */
+    EXPECT(add_refused(23, 6, "A", 1, RUSHGIRDLE_ROOM));
+    EXPECT(add_refused(26, 6, "A", 1, 8));
+    lend(both, 23, 27, 7);
+    EXPECT(add(27, 6, "A") == 0 && stand(three, 27, 27, BLANK));
+    lend(both, 23, ROOM, 7);
+    EXPECT(add(ROOM, 6, "A") == 0 && stand(three, 27, ROOM, BLANK));
+
+    /* the refusals in their order, each before those after it: the id is live, and there is no room */
+    static const char long_name[] = "AAAAAAAAAAAAAAAAAAAAAAAAAAAAAAAAAAAAAAAAAAAAAAAAAAAAAAAAAAAAAAAAA";
+    lend(both, 23, 23, 7);
+    words[2]++;
+    EXPECT(add(23, 5, "") == RUSHGIRDLE_NOT_GOOD && words[2] == 7);
+    words[2]--;
+    EXPECT(stand(both, 23, 23, 7));
+    EXPECT(add_refused(23, 5, "", 0, RUSHGIRDLE_EMPTY));
+    EXPECT(add_refused(23, 5, long_name, 65, RUSHGIRDLE_LONG));
+    EXPECT(add_refused(23, 5, "A\0", 2, RUSHGIRDLE_ZERO_BYTE));
+    EXPECT(add_refused(23, 5, "\t\0", 2, 3));
+    EXPECT(add_refused(23, 5, "A\t", 2, RUSHGIRDLE_CONTROL));
+    EXPECT(add_refused(40, 6, "\x7f", 1, 12));
+    EXPECT(add_refused(23, 5, "A", 1, RUSHGIRDLE_ORDER));
+    EXPECT(add_refused(ROOM, 9, "B", 1, 9));
+    EXPECT(add_refused(22 + 4, 6, long_name, 64, 8));
+
+    /* the least id and the greatest, before and after the others */
+    lend(both, 23, 31, 7);
+    EXPECT(add(31, 65535, "A") == 0 && words[5] == 65535u * 256 + 3 && add(31, 0, "A") == 0 && words[3] == 3 && words[0] == 4 && words[2] == 12);
+    EXPECT(words[19] == 0 && words[20] == 5 && words[21] == 9 && words[22] == 65535 && rushgirdle_good(words, 31));
+    EXPECT(add(31, 0, "A") == 9 && add(31, 65535, "A") == 9 && add(31, 1, "A") == 8);
+    EXPECT(rushgirdle_withdraw(words, 31, 0) == 0 && rushgirdle_withdraw(words, 31, 65535) == 0 && stand(both, 23, 31, BLANK));
+
+    /* 64 bytes take 3 + 1 + 4 * 66 + 66 words */
+    b = rushgirdle_build(NULL, 0, words, 334);
+    EXPECT(rushgirdle_add(words, 333, 1, (const uint8_t *)long_name, 64) == 8 && all_words(words, 0, 3, 0) && all_words(words, 3, 334, BLANK));
+    EXPECT(rushgirdle_add(words, 334, 1, (const uint8_t *)long_name, 65) == 2);
+    EXPECT(rushgirdle_add(words, 334, 1, (const uint8_t *)long_name, 64) == 0 && words[0] == 1 && words[1] == 66 && words[2] == 66);
+    EXPECT(words[3] == 256 + 66 && rushgirdle_good(words, 334) && !rushgirdle_good(words, 333));
+
+    /* a name with a tab that is in the index stays as it is, and no other comes */
+    static const uint32_t beside[55] = {
+        2, 10, 10, 1287, 1539, 3, 16641, 0, 1, 3, 4259841, 1, 1, 3, 1090519041, 2, 1,
+        7, 19457, 3, 1, 7, 4997377, 4, 1, 7, 156124417, 5, 1, 7, 1091128833, 6, 1, 7, 1157627905, 7, 1, 7, 1279330561, 8, 1, 7, 1313144833, 9, 1,
+        6, 6, 6, 5, 5, 5, 5, 5, 5, 5};
+    lend(tabbed, 39, 55, 0);
+    EXPECT(add(55, 6, "LA\tNE") == 12 && add(54, 6, "A") == 8 && stand(tabbed, 39, 55, 0));
+    EXPECT(add(55, 6, "A") == 0 && stand(beside, 55, 55, BLANK));
+    EXPECT(rushgirdle_withdraw(words, 55, 6) == 0 && stand(tabbed, 39, 55, BLANK));
+
+    /* NULL with length 0: the words, the name, both; and words that are too few */
+    EXPECT(rushgirdle_add(NULL, 0, 5, (const uint8_t *)"A", 1) == 6);
+    EXPECT(rushgirdle_add(NULL, 0, 5, NULL, 0) == 6);
+    lend(both, 23, 30, 7);
+    EXPECT(rushgirdle_add(words, 30, 6, NULL, 0) == 1 && stand(both, 23, 30, 7));
+    for (size_t n = 0; n < 23; n++)
+        EXPECT(add(n, 6, "A") == 6 && stand(both, 23, 30, 7));
+    EXPECT(build("\n", 30).number == 11 && add(30, 6, "A") == 6 && all_words(words, 0, 30, BLANK));
+}
+
+static int withdraw_refused(size_t length, unsigned id, unsigned number)
+{
+    lend(both, 23, length, 7);
+    return rushgirdle_withdraw(words, length, (uint16_t)id) == number && stand(both, 23, length, 7);
+}
+
+static void test_withdraw(void)
+{
+    static const uint32_t five[19] = {1, 3, 3, 1283, 3, 16641, 0, 1, 3, 4259841, 1, 1, 3, 1090519041, 2, 1, 5, 5, 5};
+    lend(both, 23, 23, 7);
+    EXPECT(rushgirdle_withdraw(words, 23, 9) == 0 && stand(five, 19, 23, BLANK));
+    EXPECT(rushgirdle_withdraw(words, 23, 9) == 13 && stand(five, 19, 23, BLANK));
+    EXPECT(rushgirdle_withdraw(words, 23, 5) == 0 && stand(no_names, 3, 23, BLANK));
+    EXPECT(rushgirdle_withdraw(words, 23, 5) == 13 && stand(no_names, 3, 23, BLANK));
+
+    /* ids that are not live: below, between and above the two, the least and the greatest */
+    static const unsigned missing[] = {0, 4, 6, 8, 10, 5 + 256, 65535};
+    for (size_t k = 0; k < sizeof missing / sizeof *missing; k++) {
+        EXPECT(withdraw_refused(23, missing[k], RUSHGIRDLE_NOT_LIVE));
+        EXPECT(withdraw_refused(30, missing[k], 13));
+    }
+
+    /* AB under 3 and AC under 7 share the first of their four features; the rows of the others are their own */
+    static const uint32_t ab_ac[41] = {
+        2, 7, 8, 772, 1796, 4, 16641, 0, 2, 4, 4276737, 2, 1, 4, 4276993, 3, 1, 4, 1094844417, 4, 1, 4, 1094909953, 5, 1,
+        4, 1107296257, 6, 1, 4, 1124073473, 7, 1, 3, 7, 3, 7, 3, 7, 3, 7};
+    static const uint32_t ac[24] = {1, 4, 4, 1796, 4, 16641, 0, 1, 4, 4276993, 1, 1, 4, 1094909953, 2, 1, 4, 1124073473, 3, 1, 7, 7, 7, 7};
+    lend(ab_ac, 41, 43, 7);
+    EXPECT(rushgirdle_withdraw(words, 43, 3) == 0 && stand(ac, 24, 43, BLANK));
+    EXPECT(add(40, 3, "AB") == 8 && stand(ac, 24, 43, BLANK));
+    EXPECT(add(41, 3, "AB") == 0 && stand(ab_ac, 41, 43, BLANK));
+
+    /* not good: before the id, and however many words there are; NULL with length 0 */
+    lend(both, 23, 30, 7);
+    words[0]++;
+    EXPECT(rushgirdle_withdraw(words, 30, 5) == 6 && rushgirdle_withdraw(words, 30, 4) == 6 && words[0] == 3);
+    words[0]--;
+    for (size_t n = 0; n < 23; n++)
+        EXPECT(rushgirdle_withdraw(words, n, 5) == 6 && stand(both, 23, 30, 7));
+    EXPECT(rushgirdle_withdraw(NULL, 0, 5) == 6);
+    fill_words(words, ROOM);
+    EXPECT(rushgirdle_withdraw(words, ROOM, 5) == 6 && all_words(words, 0, ROOM, KEPT));
+}
+
+static uint32_t before[90000];
+
+/* whether as many words as there can be are those of before */
+static int as_before(void) { return memcmp(words, before, sizeof before) == 0; }
+
+static void test_upkeep_most(void)
+{
+    /* 256 names: a live id is 9, any other 10, and a bad name comes first; one that goes makes place */
+    static char many[256 * 11 + 1];
+    int at = 0;
+    for (unsigned i = 0; i < 256; i++)
+        at += sprintf(many + at, "4E%04X0141\n", 2 * i);
+    fill_words(words, 90000);
+    EXPECT(rushgirdle_build((const uint8_t *)many, (size_t)at, words, RUSHGIRDLE_MOST_WORDS).number == 0);
+    memcpy(before, words, sizeof before);
+    EXPECT(add(RUSHGIRDLE_MOST_WORDS, 510, "A") == 9 && add(RUSHGIRDLE_MOST_WORDS, 0, "B") == 9 && as_before());
+    EXPECT(add(RUSHGIRDLE_MOST_WORDS, 511, "A") == RUSHGIRDLE_FULL && add(RUSHGIRDLE_MOST_WORDS, 1, "B") == 10 && as_before());
+    EXPECT(add(1039, 1, "A") == 10 && add(RUSHGIRDLE_MOST_WORDS, 1, "") == 1 && add(1039, 0, "\t") == 12 && as_before());
+    EXPECT(rushgirdle_withdraw(words, RUSHGIRDLE_MOST_WORDS, 1) == 13 && as_before());
+    EXPECT(rushgirdle_withdraw(words, RUSHGIRDLE_MOST_WORDS, 256) == 0 && words[0] == 255 && words[1] == 3 && words[2] == 765);
+    EXPECT(add(1038, 256, "A") == 8 && add(1039, 256, "A") == 0 && as_before());
+
+    /* all of them go, one after the other, in as many words as they took; those beyond stay */
+    unsigned gone = 0;
+    for (unsigned i = 0; i < 256; i++)
+        gone += rushgirdle_withdraw(words, 1039, (uint16_t)(2 * (167 * i % 256))) == 0;
+    EXPECT(gone == 256 && all_words(words, 0, 3, 0) && all_words(words, 3, RUSHGIRDLE_MOST_WORDS, BLANK));
+    EXPECT(all_words(words, RUSHGIRDLE_MOST_WORDS, 90000, KEPT));
+
+    /* 256 names of 64 bytes: one and then another goes and comes back, into as many words as the index takes */
+    size_t length = most_lines();
+    fill_words(words, 90000);
+    EXPECT(rushgirdle_build((const uint8_t *)most, length, words, RUSHGIRDLE_MOST_WORDS).number == 0);
+    memcpy(before, words, sizeof before);
+    size_t total = 3 + 256 + 4 * (size_t)words[1] + 16896;
+    for (unsigned i = 0; i < 256; i += 51) {
+        uint8_t name[64];
+        EXPECT(rushgirdle_read_name((const uint8_t *)most + 137 * i, 137, name, 64).len == 64);
+        EXPECT(rushgirdle_withdraw(words, RUSHGIRDLE_MOST_WORDS, (uint16_t)i) == 0 && words[0] == 255 && words[2] == 16896 - 66);
+        EXPECT(rushgirdle_add(words, total - 1, (uint16_t)i, name, 64) == 8);
+        EXPECT(rushgirdle_add(words, total, (uint16_t)i, name, 64) == 0 && as_before());
+        EXPECT(rushgirdle_add(words, RUSHGIRDLE_MOST_WORDS, 300, name, 64) == 10 && as_before());
+    }
 }
 
 /* ---- the search */
@@ -763,6 +969,19 @@ static void test_fences(void)
     for (size_t n = 0; n < 23; n++) /* every shorter slice, its end at the fence too */
         EXPECT(!rushgirdle_good(fenced(two_words, 4 * n), n));
     EXPECT(rushgirdle_list(w, 23, 3, 1090519041).start == 21);
+
+    /* a name goes and comes back in just its words; every shorter slice of words, and every shorter name */
+    uint32_t *u = fenced(both, sizeof both);
+    EXPECT(rushgirdle_withdraw(u, 23, 5) == 0 && memcmp(u, nine, sizeof nine) == 0 && all_words(u, 19, 23, BLANK) && u[-1] == KEPT);
+    EXPECT(rushgirdle_add(u, 23, 6, fenced("AB", 2), 2) == 8 && rushgirdle_add(u, 23, 5, fenced("A", 1), 1) == 0);
+    EXPECT(memcmp(u, both, sizeof both) == 0 && u[-1] == KEPT);
+    for (size_t n = 0; n < 23; n++) {
+        u = fenced(both, 4 * n);
+        EXPECT(rushgirdle_add(u, n, 6, fenced("A", 1), 1) == 6 && rushgirdle_withdraw(u, n, 5) == 6 && memcmp(u, both, 4 * n) == 0);
+        u = fenced(nine, 4 * (n < 19 ? n : 19));
+        EXPECT(rushgirdle_add(u, n < 19 ? n : 19, 5, fenced("A", 1), 1) == (n < 19 ? 6 : 8));
+    }
+
     uint8_t *query = fenced("A", 1);
     uint32_t *i = fenced(NULL, 8), *h = fenced(NULL, 8), *z = fenced(NULL, 8);
     rushgirdle_search_answer a = rushgirdle_search(query, 1, 1, 1, 1, 6, w, 23, i, 2, h, 2, z, 2);
@@ -818,6 +1037,9 @@ int main(void)
     test_build();
     test_good();
     test_list();
+    test_add();
+    test_withdraw();
+    test_upkeep_most();
     test_search();
     test_rows();
     test_import();

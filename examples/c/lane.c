@@ -1,4 +1,5 @@
-/* Which of three registered names are like LANE? The answers come as records. examples/python/lane.py asks for columns, and prints the same.
+/* Which of three registered names are like LANE? Then LANES is withdrawn, and added under another id. The answers come as records;
+ * examples/python/lane.py asks for columns, and prints the same.
  *
  *   rt staticlib surface
  *   gcc -Iinclude -o target/lane examples/c/lane.c target/staticlib/libsurface.a
@@ -29,6 +30,17 @@ static void look_up(const char *query, uint32_t allowance)
            (unsigned)found.rows, (unsigned)found.touches, (unsigned)found.p, (unsigned)found.q);
 }
 
+static void withdraw(uint16_t id)
+{
+    printf("withdraw %u: number %u\n", (unsigned)id, (unsigned)rushgirdle_withdraw(words, RUSHGIRDLE_MOST_WORDS, id));
+}
+
+static void add(uint16_t id, const char *name)
+{
+    printf("add %s under %u: number %u\n", name, (unsigned)id,
+           (unsigned)rushgirdle_add(words, RUSHGIRDLE_MOST_WORDS, id, (const uint8_t *)name, strlen(name)));
+}
+
 int main(void)
 {
     rushgirdle_build_answer built = rushgirdle_build(
@@ -39,5 +51,9 @@ int main(void)
     }
     look_up("LANE", 15);
     look_up("LANE", 14);
+    withdraw(11);
+    add(13, "LANES");
+    look_up("LANE", 15);
+    withdraw(11);
     return 0;
 }

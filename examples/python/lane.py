@@ -1,4 +1,5 @@
-"""Which of three registered names are like LANE? The answers come as three columns. examples/c/lane.c asks for records, and prints the same.
+"""Which of three registered names are like LANE? Then LANES is withdrawn, and added under another id. The answers come as three columns;
+examples/c/lane.c asks for records, and prints the same.
 
   rt staticlib surface
   gcc -shared -o target/librushgirdle.so -Wl,--whole-archive target/staticlib/libsurface.a -Wl,--no-whole-archive
@@ -27,6 +28,10 @@ read_bytes = [c_char_p, c_size_t]
 lent_words = [POINTER(c_uint32), c_size_t]
 library.rushgirdle_build.restype = BuildAnswer
 library.rushgirdle_build.argtypes = read_bytes + lent_words
+library.rushgirdle_add.restype = c_uint8
+library.rushgirdle_add.argtypes = lent_words + [c_uint16] + read_bytes
+library.rushgirdle_withdraw.restype = c_uint8
+library.rushgirdle_withdraw.argtypes = lent_words + [c_uint16]
 library.rushgirdle_search.restype = SearchAnswer
 library.rushgirdle_search.argtypes = read_bytes + [c_uint8, c_uint16, c_uint16, c_uint32] + 4 * lent_words
 
@@ -45,8 +50,20 @@ def look_up(query, allowance):
     print(f"rows {found.rows} touches {found.touches} threshold {found.p}/{found.q}")
 
 
+def withdraw(number):
+    print(f"withdraw {number}: number {library.rushgirdle_withdraw(words, MOST_WORDS, number)}")
+
+
+def add(number, name):
+    print(f"add {name.decode()} under {number}: number {library.rushgirdle_add(words, MOST_WORDS, number, name, len(name))}")
+
+
 built = library.rushgirdle_build(register, len(register), words, MOST_WORDS)
 if built.number != 0:
     sys.exit(f"line {built.line} is refused with {built.number}")
 look_up(b"LANE", 15)
 look_up(b"LANE", 14)
+withdraw(11)
+add(13, b"LANES")
+look_up(b"LANE", 15)
+withdraw(11)

@@ -14,7 +14,7 @@ pub const NAMES: usize = 256;
 pub const POSTINGS: usize = 16_896;
 /// The greatest q of a threshold.
 pub const MOST_Q: u32 = 1000;
-/// What a build leaves in every word that is not part of the index.
+/// What a build, an add and a withdrawal leave in every word that is not part of the index.
 pub const BLANK: u32 = 4_294_967_295;
 /// The most bytes of a name in a frame, whose length is one byte.
 pub const FRAME_NAME: usize = 255;

@@ -10,10 +10,12 @@ use second::differ::{differ, program, Run};
 use second::faults;
 use second::generate;
 use second::import_faults;
-use second::protocol::{import_answer, Kind};
+use second::protocol::{add_answer, calls_answer, import_answer, withdraw_answer, Kind};
+use second::upkeep_faults::{add_fault, run_fault, withdraw_fault};
 
 const USAGE: &str = "usage:
-    second lookup|importer|features|likeness|good|list|build|search|frames|import    standard input to standard output
+    second lookup|importer|features|likeness|good|list|build|search|frames|import|add|withdraw|calls
+                  standard input to standard output
     second generate SEED COUNT KIND [--from AT] [--to DIRECTORY]
     second differ --program PATH [--arg WORD]..  --seed SEED --count COUNT
                   [--kind KIND] [--regressions DIRECTORY] [--seconds SECONDS]";
@@ -61,6 +63,9 @@ fn wrong_answer(kind: &str, name: &str, input: &[u8]) -> Result<Vec<u8>, String>
         Some(Kind::Import) => import_faults::import_fault(name)
             .map(|wrong| import_answer(input, |log, s, words, o, p| wrong.import(log, s, words, o, p))),
         Some(Kind::Importer) => import_faults::importer_fault(name).map(|importer| Ok(importer(input))),
+        Some(Kind::Add) => add_fault(name).map(|add| add_answer(input, add)),
+        Some(Kind::Withdraw) => withdraw_fault(name).map(|withdraw| withdraw_answer(input, withdraw)),
+        Some(Kind::Calls) => run_fault(name).map(|wrong| calls_answer(input, |words, calls| wrong.run(words, calls))),
         _ => return Err(USAGE.to_string()),
     };
     wrong.unwrap_or_else(|| Err(format!("no fault {name}")))

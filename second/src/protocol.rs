@@ -15,6 +15,7 @@ use crate::lookup::lookup;
 use crate::measures::{least_count, searched, similar, Measure, Threshold};
 use crate::refusal::number_of;
 use crate::search::{search, AnswerRow, Query};
+use crate::upkeep::{add, run, withdraw, Add, Call, Withdraw};
 
 /// What every lent byte holds before a call.
 pub const LENT_BYTE: u8 = 0xA5;
@@ -45,10 +46,14 @@ pub enum Kind {
     LogFrames,
     /// The protocol of `Frames`, on the lines that an importer writes.
     ImportFrames,
+    Add,
+    Withdraw,
+    /// A run of adds and withdrawals.
+    Calls,
 }
 
 impl Kind {
-    pub const ALL: [Kind; 13] = [
+    pub const ALL: [Kind; 16] = [
         Kind::Lookup,
         Kind::Features,
         Kind::Likeness,
@@ -62,6 +67,9 @@ impl Kind {
         Kind::Importer,
         Kind::LogFrames,
         Kind::ImportFrames,
+        Kind::Add,
+        Kind::Withdraw,
+        Kind::Calls,
     ];
 
     pub fn word(self) -> &'static str {
@@ -79,6 +87,9 @@ impl Kind {
             Kind::Importer => "importer",
             Kind::LogFrames => "log_frames",
             Kind::ImportFrames => "import_frames",
+            Kind::Add => "add",
+            Kind::Withdraw => "withdraw",
+            Kind::Calls => "calls",
         }
     }
 
@@ -104,6 +115,9 @@ impl Kind {
             Kind::Search => search_line,
             Kind::Frames | Kind::LogFrames | Kind::ImportFrames => frames_line,
             Kind::Import => return import_answer(input, import),
+            Kind::Add => return add_answer(input, add),
+            Kind::Withdraw => return withdraw_answer(input, withdraw),
+            Kind::Calls => return calls_answer(input, run),
         };
         by_lines(input, line)
     }
@@ -130,6 +144,37 @@ pub fn import_answer(
     by_lines(input, |case| import_line(case, &import))
 }
 
+/// The protocol `add` over a given add.
+pub fn add_answer(input: &[u8], add: Add) -> Result<Vec<u8>, String> {
+    by_lines(input, |case| {
+        let (id, name) = (case.number::<u16>("id")?, case.bytes("name")?);
+        let mut words = case.slice()?;
+        let number = add(&mut words, id.into(), &name);
+        Ok(joined(number.to_string(), &spaced(&words)))
+    })
+}
+
+/// The protocol `withdraw` over a given withdrawal.
+pub fn withdraw_answer(input: &[u8], withdraw: Withdraw) -> Result<Vec<u8>, String> {
+    by_lines(input, |case| {
+        let id = case.number::<u16>("id")?;
+        let mut words = case.slice()?;
+        let number = withdraw(&mut words, id.into());
+        Ok(joined(number.to_string(), &spaced(&words)))
+    })
+}
+
+/// The protocol `calls` over a given run of calls, which begins with what a build of no register leaves.
+pub fn calls_answer(input: &[u8], run: impl Fn(&mut [u32], &[Call]) -> Vec<u8>) -> Result<Vec<u8>, String> {
+    by_lines(input, |case| {
+        let mut words = vec![LENT_WORD; case.number("length")?];
+        let calls: Vec<Call> = (0..case.rest.len()).map(|_| case.call()).collect::<Result<_, _>>()?;
+        build(b"", &mut words);
+        let numbers = run(&mut words, &calls).into_iter().map(u32::from);
+        Ok(spaced(&numbers.chain(words).collect::<Vec<_>>()))
+    })
+}
+
 /// The words of a case that are still to be read.
 struct Words<'a> {
     rest: std::collections::VecDeque<&'a str>,
@@ -140,32 +185,28 @@ impl Words<'_> {
         self.rest.pop_front().ok_or(format!("no {what}"))
     }
 
-    /// A number in decimal, or in hexadecimal after `0x`, that fits its type.
+    /// A number that fits its type.
     fn number<T: TryFrom<u64>>(&mut self, what: &str) -> Result<T, String> {
         let word = self.word(what)?;
-        let number = match word.strip_prefix("0x") {
-            Some(digits) => u64::from_str_radix(digits, 16),
-            None => word.parse(),
-        };
-        number.ok().and_then(|number| T::try_from(number).ok()).ok_or(format!("{what} is {word}"))
+        number_in(word).ok_or(format!("{what} is {word}"))
     }
 
     /// Bytes as hexadecimal pairs, or `-` for none.
     fn bytes(&mut self, what: &str) -> Result<Vec<u8>, String> {
         let word = self.word(what)?;
-        let digits = if word == "-" { "" } else { word };
-        let pairs: Option<Vec<u8>> = digits
-            .as_bytes()
-            .chunks(2)
-            .map(|pair| match pair {
-                [high, low] => {
-                    let value = |digit: &u8| char::from(*digit).to_digit(16);
-                    Some((value(high)? * 16 + value(low)?) as u8)
-                }
-                _ => None,
-            })
-            .collect();
-        pairs.ok_or(format!("{what} is {word}"))
+        bytes_in(word).ok_or(format!("{what} is {word}"))
+    }
+
+    /// A call: `+ID:NAME` or `-ID`.
+    fn call(&mut self) -> Result<Call, String> {
+        let word = self.word("call")?;
+        let id = |digits| number_in::<u16>(digits).map(u32::from);
+        let call = match (word.strip_prefix('+').and_then(|rest| rest.split_once(':')), word.strip_prefix('-')) {
+            (Some((digits, name)), _) => id(digits).zip(bytes_in(name)).map(|(id, name)| Call::Add { id, name }),
+            (None, Some(digits)) => id(digits).map(|id| Call::Withdraw { id }),
+            (None, None) => None,
+        };
+        call.ok_or(format!("call is {word}"))
     }
 
     /// All words that are left, as the 32-bit words of a slice.
@@ -176,6 +217,28 @@ impl Words<'_> {
     fn end(&self) -> Result<(), String> {
         self.rest.front().map_or(Ok(()), |word| Err(format!("{word} is one too many")))
     }
+}
+
+/// The number of a word in decimal, or in hexadecimal after `0x`, where it fits its type.
+fn number_in<T: TryFrom<u64>>(word: &str) -> Option<T> {
+    let number = match word.strip_prefix("0x") {
+        Some(digits) => u64::from_str_radix(digits, 16),
+        None => word.parse(),
+    };
+    number.ok().and_then(|number| T::try_from(number).ok())
+}
+
+/// The bytes of a word of hexadecimal pairs, or of `-`, which is none.
+fn bytes_in(word: &str) -> Option<Vec<u8>> {
+    let digits = if word == "-" { "" } else { word };
+    let byte = |pair: &[u8]| match pair {
+        [high, low] => {
+            let value = |digit: &u8| char::from(*digit).to_digit(16);
+            Some((value(high)? * 16 + value(low)?) as u8)
+        }
+        _ => None,
+    };
+    digits.as_bytes().chunks(2).map(byte).collect()
 }
 
 /// Numbers with one space between them.

@@ -19,14 +19,16 @@ pub enum Refusal {
     Allowance = 7,
     /// What is lent is too small: rows, words, bytes, outcomes or pairs; or a program's input is too large.
     Room = 8,
-    /// The register id is not above the one before.
+    /// The register id is not above the one before; the id of an add is live.
     Order = 9,
-    /// A 257th name, or the 1,025th line of a log.
+    /// A 257th name, of a register or by an add, or the 1,025th line of a log.
     Crowd = 10,
     /// A malformed frame.
     Malformed = 11,
     /// The name or query holds a control character other than 0.
     Control = 12,
+    /// The id of a withdrawal is not live.
+    NotLive = 13,
 }
 
 impl Refusal {

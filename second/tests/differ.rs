@@ -52,6 +52,9 @@ fn the_kept_regressions_hold() {
         (Kind::Importer, "one_of_each_outcome"),
         (Kind::Search, "index_with_a_tab"),
         (Kind::Good, "index_with_a_tab"),
+        (Kind::Add, "example_of_the_rule"),
+        (Kind::Withdraw, "example_of_the_rule"),
+        (Kind::Calls, "example_of_the_rule"),
     ] {
         let kept = kept(&regressions(), kind).unwrap();
         assert!(kept.iter().any(|one| one.name == known));
@@ -121,7 +124,7 @@ fn a_difference_repeats_as_printed() {
 }
 
 /// Faults that a kept regression shows, each with its kind.
-const BY_REGRESSIONS: [(&str, &str); 17] = [
+const BY_REGRESSIONS: [(&str, &str); 45] = [
     ("import", "missing_reading_counted_as_0"),
     ("import", "missing_reading_added_to_the_sum"),
     ("import", "refused_taken_as_unresolved"),
@@ -139,11 +142,39 @@ const BY_REGRESSIONS: [(&str, &str); 17] = [
     ("importer", "no_end_line"),
     ("importer", "lines_counted_over_all"),
     ("importer", "settings_judged_before_register"),
+    ("add", "live_id_passes"),
+    ("add", "256_names_judged_before_live_id"),
+    ("add", "255_names_are_too_many"),
+    ("add", "257th_name_added"),
+    ("add", "room_judged_on_the_old_total"),
+    ("add", "room_one_word_too_strict"),
+    ("add", "room_for_a_row_of_each_feature"),
+    ("add", "name_judged_before_index"),
+    ("add", "live_id_judged_before_name"),
+    ("add", "control_character_passes"),
+    ("add", "refused_add_has_written"),
+    ("add", "refused_add_blanks_beyond"),
+    ("add", "add_leaves_words_beyond"),
+    ("add", "add_keeps_the_head"),
+    ("add", "add_puts_its_posting_last"),
+    ("add", "add_drops_another_posting"),
+    ("add", "add_joins_a_row_of_another_size"),
+    ("add", "add_drops_features_of_no_name"),
+    ("withdraw", "missing_id_passes"),
+    ("withdraw", "missing_id_judged_before_index"),
+    ("withdraw", "emptied_row_stays_with_count_0"),
+    ("withdraw", "row_of_a_shared_list_goes"),
+    ("withdraw", "withdraw_keeps_the_head"),
+    ("withdraw", "withdraw_blanks_beyond_the_old_total_alone"),
+    ("withdraw", "refused_withdrawal_blanks_beyond"),
+    ("calls", "withdrawn_id_stays_taken"),
+    ("calls", "room_given_up_is_lost"),
+    ("calls", "rows_given_up_are_lost"),
 ];
 
 /// Without any generated input.
 #[test]
-fn kept_regressions_show_wrong_imports() {
+fn kept_regressions_show_faults() {
     for (kind, fault) in BY_REGRESSIONS {
         let words = ["--program", SECOND, "--kind", kind, "--arg", kind, "--arg", "--fault", "--arg", fault];
         let (status, said) = run(&[&words[..], &["--seed", "1", "--count", "0"]].concat());
@@ -252,7 +283,7 @@ fn the_line_that_differs_is_found() {
 #[test]
 fn the_command_says_what_it_cannot_do() {
     // The words, the input, and how the command's complaint begins.
-    let vectors: [(&[&str], &[u8], &str); 12] = [
+    let vectors: [(&[&str], &[u8], &str); 16] = [
         (&[], b"", "usage:"),
         (&["loook"], b"", "usage:"),
         (&["good"], b"x\n", "line 1: word is x"),
@@ -264,6 +295,10 @@ fn the_command_says_what_it_cannot_do() {
         (&["import", "--fault", "none"], b"", "no fault none"),
         (&["importer", "--fault", "week_rounded_up"], b"", "no fault week_rounded_up"),
         (&["good", "--fault", "none"], b"", "usage:"),
+        (&["add", "--fault", "missing_id_passes"], b"", "no fault missing_id_passes"),
+        (&["withdraw", "--fault", "live_id_passes"], b"", "no fault live_id_passes"),
+        (&["calls", "--fault", "none"], b"", "no fault none"),
+        (&["calls"], b"3 +5:4\n", "line 1: call is +5:4"),
         (&["generate", "1", "2", "importer"], b"", "several inputs of kind importer need --to DIRECTORY"),
     ];
     for (words, input, why) in vectors {

@@ -19,8 +19,10 @@ use second::index::{good_index, list_for};
 use second::listed::{features_of_index, similarity};
 use second::lookup::{lookup, parts};
 use second::measures::{least_count, Measure, Threshold};
-use second::protocol::{import_answer, Kind};
+use second::protocol::{add_answer, calls_answer, import_answer, withdraw_answer, Kind};
 use second::random::Random;
+use second::upkeep::{add, live_names, run, withdraw, words_of_live, Call, Live};
+use second::upkeep_faults::{wrong_runs, ADD_FAULTS, WITHDRAW_FAULTS};
 
 const SEED: u64 = 20;
 
@@ -78,6 +80,8 @@ fn every_number_comes_up() {
     assert_eq!(numbers(Kind::Import, 1500), set(&[0, 8, 10, 11]));
     assert_eq!(numbers(Kind::LogFrames, 1500), set(&[0, 2, 8, 11]));
     assert_eq!(numbers(Kind::ImportFrames, 1500), set(&[0, 8, 11]));
+    assert_eq!(numbers(Kind::Add, 1500), set(&[0, 1, 2, 3, 6, 8, 9, 10, 12]));
+    assert_eq!(numbers(Kind::Withdraw, 1500), set(&[0, 6, 13]));
 }
 
 /// Lists that are there, lists that are not, and features beyond 32 bits of which the low 32 have a list.
@@ -245,6 +249,50 @@ fn generated_inputs_show_every_wrong_import() {
 #[test]
 fn generated_inputs_show_every_wrong_importer() {
     shown(Kind::Importer, &IMPORTER_FAULTS, importer, |wrong, input| wrong(input));
+}
+
+#[test]
+fn generated_inputs_show_every_wrong_add() {
+    let right = |input: &[u8]| add_answer(input, add).unwrap();
+    shown(Kind::Add, &ADD_FAULTS, right, |wrong, input| add_answer(input, wrong).unwrap());
+}
+
+#[test]
+fn generated_inputs_show_every_wrong_withdrawal() {
+    let right = |input: &[u8]| withdraw_answer(input, withdraw).unwrap();
+    shown(Kind::Withdraw, &WITHDRAW_FAULTS, right, |wrong, input| withdraw_answer(input, wrong).unwrap());
+}
+
+/// Faults that no run from the empty index shows: they need words that are not good, features that no name gives, rubbish
+/// beyond the total, or more words than a run has.
+const NOT_BY_RUNS: [&str; 16] = [
+    "add_takes_damaged_words",
+    "add_refuses_features_of_no_name",
+    "add_refuses_live_control_characters",
+    "live_id_judged_before_index",
+    "room_of_a_lookup",
+    "refused_add_blanks_beyond",
+    "add_leaves_words_beyond",
+    "add_drops_features_of_no_name",
+    "add_drops_control_features",
+    "withdraw_takes_damaged_words",
+    "withdraw_refuses_features_of_no_name",
+    "withdraw_refuses_live_control_characters",
+    "refused_withdrawal_blanks_beyond",
+    "withdraw_leaves_words_beyond_the_old_total",
+    "withdraw_drops_features_of_no_name",
+    "withdraw_drops_control_features",
+];
+
+#[test]
+fn generated_runs_show_every_wrong_call() {
+    let (by_runs, others): (Vec<_>, Vec<_>) =
+        wrong_runs().into_iter().partition(|(name, _)| !NOT_BY_RUNS.contains(name));
+    assert_eq!(others.len(), NOT_BY_RUNS.len());
+    let right = |input: &[u8]| calls_answer(input, run).unwrap();
+    shown(Kind::Calls, &by_runs, right, |wrong, input| {
+        calls_answer(input, |words, calls| wrong.run(words, calls)).unwrap()
+    });
 }
 
 /// The cases that comparisons of the program need, each with how often it came up.
@@ -747,5 +795,493 @@ fn generated_importer_inputs_hold_every_case() {
     }
     for what in NEEDED_OF_IMPORTER {
         assert!(tally.0.get(what).copied().unwrap_or(0) >= 2, "{what}: too seldom in {:#?}", tally.0);
+    }
+}
+
+/// The words of a line as numbers.
+fn parsed(words: &[&str]) -> Vec<u32> {
+    words.iter().map(|word| word.parse().unwrap()).collect()
+}
+
+/// The bytes of hexadecimal pairs, or of `-`.
+fn unpaired(digits: &str) -> Vec<u8> {
+    let digits = if digits == "-" { "" } else { digits };
+    (0..digits.len()).step_by(2).map(|at| u8::from_str_radix(&digits[at..at + 2], 16).unwrap()).collect()
+}
+
+/// Counts how the lent words are, and gives the live names of a good index.
+fn tally_lent(tally: &mut Tally, words: &[u32]) -> Option<Live> {
+    let Ok(live) = live_names(words) else {
+        tally.count("a damaged index");
+        match words {
+            [] => tally.count("no words"),
+            _ if words.iter().all(|word| *word == u32::MAX) => tally.count("words of a refused build"),
+            _ => (),
+        }
+        return None;
+    };
+    match live.len() {
+        0 | 1 | 255 | 256 => tally.count(format!("{} names", live.len())),
+        _ => (),
+    }
+    // The low byte of a name's feature is a number from 1 on.
+    if live.values().flatten().any(|feature| feature % 256 == 0) {
+        tally.count("features of no name");
+    }
+    let bytes = |of: &BTreeSet<u32>| of.iter().flat_map(|feature| feature.to_be_bytes()[..3].to_vec()).collect();
+    let controlled = |bytes: Vec<u8>| bytes.into_iter().any(|byte| byte != 0 && control(byte));
+    if live.values().any(|of| of_a_name(of) && controlled(bytes(of))) {
+        tally.count("a live name with a control character");
+    }
+    if words[words_of_live(&live).len()..].iter().any(|word| *word != u32::MAX) {
+        tally.count("rubbish beyond the total");
+    }
+    Some(live)
+}
+
+/// Where an id stands among live ones.
+fn tally_id(tally: &mut Tally, live: &Live, id: u32) {
+    let which = if live.contains_key(&id) { "a live id" } else { "an unused id" };
+    let (below, above) = (live.range(..id).count(), live.range(id + 1..).count());
+    match (below, above) {
+        (0, 0) => tally.count(format!("{which} alone")),
+        (0, _) => tally.count(format!("{which} first")),
+        (_, 0) => tally.count(format!("{which} last")),
+        _ => tally.count(format!("{which} between")),
+    }
+    if id == 0 || id == 65_535 {
+        tally.count(format!("{which}: {id}"));
+    }
+}
+
+/// What a name of some features shares with live ones of its size, and with others.
+fn tally_shared(tally: &mut Tally, live: &Live, of: &BTreeSet<u32>) {
+    let shares = |other: &&BTreeSet<u32>| !other.is_disjoint(of);
+    let (same, others): (Vec<_>, Vec<_>) = live.values().partition(|other| other.len() == of.len());
+    if same.contains(&of) {
+        tally.count("features equal to a live name's");
+    } else if same.iter().any(shares) {
+        tally.count("some features in a list of its size");
+    } else if others.iter().any(shares) {
+        tally.count("features in lists of other sizes alone");
+    } else if !live.is_empty() {
+        tally.count("no feature of a live name");
+    }
+}
+
+const NEEDED_OF_ADD: [&str; 68] = [
+    "a damaged index",
+    "no words",
+    "words of a refused build",
+    "0 names",
+    "1 names",
+    "255 names",
+    "256 names",
+    "features of no name",
+    "a live name with a control character",
+    "rubbish beyond the total",
+    "an index beyond 80,000 words",
+    "number 0",
+    "number 1",
+    "number 2",
+    "number 3",
+    "number 6",
+    "number 8",
+    "number 9",
+    "number 10",
+    "number 12",
+    "a live id first",
+    "a live id between",
+    "a live id last",
+    "a live id: 0",
+    "a live id: 65535",
+    "an unused id alone",
+    "an unused id first",
+    "an unused id between",
+    "an unused id last",
+    "an unused id: 0",
+    "an unused id: 65535",
+    "a name of 0",
+    "a name of 1",
+    "a name of 63",
+    "a name of 64",
+    "a name of 65",
+    "a name of 255",
+    "features equal to a live name's",
+    "some features in a list of its size",
+    "features in lists of other sizes alone",
+    "no feature of a live name",
+    "room for just the index",
+    "room for one word less",
+    "room for one word more",
+    "room for many more",
+    "no room at all",
+    "256 names and a live id",
+    "256 names and an unused id",
+    "256 names and no room",
+    "256 names and a bad name",
+    "255 names and an unused id",
+    "256th name, room for just the index",
+    "256th name, room for one word less",
+    "256th name, equal to all",
+    "a live id and no room",
+    "a live id and a bad name",
+    "a live id with its own name",
+    "a bad name and no room",
+    "a bad name and a damaged index",
+    "a damaged index with the id",
+    "a 0 byte and another control character",
+    "a bad name of 65 bytes with a control character",
+    "accepted into features of no name",
+    "accepted beside a control character",
+    "accepted over rubbish",
+    "8 over rubbish",
+    "9 over rubbish",
+    "10 over rubbish",
+];
+
+fn tally_add(tally: &mut Tally, line: &str) {
+    let parts: Vec<&str> = line.split_whitespace().collect();
+    let (id, name, words) = (parts[0].parse().unwrap(), unpaired(parts[1]), parsed(&parts[2..]));
+    let number = add(&mut words.clone(), id, &name);
+    tally.count(format!("number {number}"));
+    match name.len() {
+        0 | 1 | 63..=65 | 255 => tally.count(format!("a name of {}", name.len())),
+        _ => (),
+    }
+    let controls = name.iter().any(|byte| *byte != 0 && control(*byte));
+    if name.contains(&0) && controls && name.len() <= 64 {
+        tally.count("a 0 byte and another control character");
+    }
+    if name.len() == 65 && controls {
+        tally.count("a bad name of 65 bytes with a control character");
+    }
+    let of: BTreeSet<u32> = features(&name).into_iter().collect();
+    let bad_name = of.is_empty();
+    let Some(live) = tally_lent(tally, &words) else {
+        if bad_name {
+            tally.count("a bad name and a damaged index");
+        }
+        let names = second::index::cut(&words).map_or(Vec::new(), |index| index.names);
+        if names.iter().any(|name| name.id == id) {
+            tally.count("a damaged index with the id");
+        }
+        return;
+    };
+    tally_id(tally, &live, id);
+    let (is_live, full) = (live.contains_key(&id), live.len() == 256);
+    let total = words_of_live(&live).len();
+    let no_room = words.len() == total;
+    for (held, what) in [
+        (full && is_live, "256 names and a live id"),
+        (full && !is_live && !bad_name, "256 names and an unused id"),
+        (full && !is_live && !bad_name && no_room, "256 names and no room"),
+        (full && bad_name, "256 names and a bad name"),
+        (live.len() == 255 && !is_live && !bad_name, "255 names and an unused id"),
+        (is_live && !bad_name && no_room, "a live id and no room"),
+        (is_live && bad_name, "a live id and a bad name"),
+        (live.get(&id) == Some(&of), "a live id with its own name"),
+        (bad_name && no_room, "a bad name and no room"),
+        (no_room, "no room at all"),
+        (total > 80_000, "an index beyond 80,000 words"),
+    ] {
+        if held {
+            tally.count(what);
+        }
+    }
+    let rubbish = words[total..].iter().any(|word| *word != u32::MAX);
+    match number {
+        0 if rubbish => tally.count("accepted over rubbish"),
+        8..=10 if rubbish => tally.count(format!("{number} over rubbish")),
+        _ => (),
+    }
+    if number == 0 {
+        if live.values().flatten().any(|feature| feature % 256 == 0) {
+            tally.count("accepted into features of no name");
+        }
+        if live.values().flatten().any(|feature| feature.to_be_bytes()[..3].contains(&9)) {
+            tally.count("accepted beside a control character");
+        }
+    }
+    if bad_name || is_live || full {
+        return;
+    }
+    tally_shared(tally, &live, &of);
+    let mut after = live.clone();
+    after.insert(id, of);
+    let (need, last) = (words_of_live(&after).len(), after.len() == 256);
+    let room = match words.len() as i64 - need as i64 {
+        0 => "room for just the index",
+        -1 => "room for one word less",
+        1 => "room for one word more",
+        2.. => "room for many more",
+        _ => return,
+    };
+    tally.count(room);
+    if last {
+        tally.count(format!("256th name, {room}"));
+        if after.values().all(|other| *other == after[&id]) {
+            tally.count("256th name, equal to all");
+        }
+    }
+}
+
+#[test]
+fn generated_adds_hold_every_case() {
+    let mut tally = Tally::default();
+    for at in 0..4000 {
+        tally_add(&mut tally, &String::from_utf8(input(Kind::Add, SEED, at)).unwrap());
+    }
+    for what in NEEDED_OF_ADD {
+        assert!(tally.0.get(what).copied().unwrap_or(0) >= 3, "{what}: too seldom in {:#?}", tally.0);
+    }
+}
+
+const NEEDED_OF_WITHDRAW: [&str; 36] = [
+    "a damaged index",
+    "no words",
+    "words of a refused build",
+    "0 names",
+    "1 names",
+    "255 names",
+    "256 names",
+    "features of no name",
+    "a live name with a control character",
+    "rubbish beyond the total",
+    "an index beyond 80,000 words",
+    "number 0",
+    "number 6",
+    "number 13",
+    "a live id alone",
+    "a live id first",
+    "a live id between",
+    "a live id last",
+    "a live id: 0",
+    "a live id: 65535",
+    "an unused id alone",
+    "an unused id first",
+    "an unused id between",
+    "an unused id last",
+    "an unused id: 0",
+    "an unused id: 65535",
+    "all its lists shared",
+    "all its lists its own",
+    "some of its lists its own",
+    "13 over rubbish",
+    "accepted over rubbish",
+    "accepted in just its words",
+    "withdrawn from features of no name",
+    "another name with equal features",
+    "a damaged index with the id",
+    "a damaged index without the id",
+];
+
+fn tally_withdrawal(tally: &mut Tally, line: &str) {
+    let parts: Vec<&str> = line.split_whitespace().collect();
+    let (id, words) = (parts[0].parse().unwrap(), parsed(&parts[1..]));
+    let number = withdraw(&mut words.clone(), id);
+    tally.count(format!("number {number}"));
+    let Some(mut live) = tally_lent(tally, &words) else {
+        let names = second::index::cut(&words).map_or(Vec::new(), |index| index.names);
+        let with = names.iter().any(|name| name.id == id);
+        return tally.count(if with { "a damaged index with the id" } else { "a damaged index without the id" });
+    };
+    tally_id(tally, &live, id);
+    let total = words_of_live(&live).len();
+    if total > 80_000 {
+        tally.count("an index beyond 80,000 words");
+    }
+    let rubbish = words[total..].iter().any(|word| *word != u32::MAX);
+    let foreign = live.values().flatten().any(|feature| feature % 256 == 0);
+    let Some(of) = live.remove(&id) else {
+        if rubbish {
+            tally.count("13 over rubbish");
+        }
+        return;
+    };
+    let others: Vec<&BTreeSet<u32>> = live.values().filter(|other| other.len() == of.len()).collect();
+    let own = of.iter().filter(|feature| !others.iter().any(|other| other.contains(feature))).count();
+    for (held, what) in [
+        (rubbish, "accepted over rubbish"),
+        (words.len() == total, "accepted in just its words"),
+        (foreign, "withdrawn from features of no name"),
+        (others.contains(&&of), "another name with equal features"),
+        (own == 0, "all its lists shared"),
+        (own == of.len() && !live.is_empty(), "all its lists its own"),
+        (own > 0 && own < of.len(), "some of its lists its own"),
+    ] {
+        if held {
+            tally.count(what);
+        }
+    }
+}
+
+#[test]
+fn generated_withdrawals_hold_every_case() {
+    let mut tally = Tally::default();
+    for at in 0..4000 {
+        tally_withdrawal(&mut tally, &String::from_utf8(input(Kind::Withdraw, SEED, at)).unwrap());
+    }
+    for what in NEEDED_OF_WITHDRAW {
+        assert!(tally.0.get(what).copied().unwrap_or(0) >= 3, "{what}: too seldom in {:#?}", tally.0);
+    }
+}
+
+/// A run of calls, taken apart.
+fn run_case(at: u64) -> (usize, Vec<Call>) {
+    let line = String::from_utf8(input(Kind::Calls, SEED, at)).unwrap();
+    let (length, calls) = line.trim_end().split_once(' ').unwrap_or((line.trim_end(), ""));
+    let call = |word: &str| match word.strip_prefix('-') {
+        Some(id) => Call::Withdraw { id: id.parse().unwrap() },
+        None => {
+            let (id, name) = word.strip_prefix('+').unwrap().split_once(':').unwrap();
+            Call::Add { id: id.parse().unwrap(), name: unpaired(name) }
+        }
+    };
+    (length.parse().unwrap(), calls.split_whitespace().map(call).collect())
+}
+
+const NEEDED_OF_CALLS: [&str; 35] = [
+    "no calls",
+    "200 calls or more",
+    "0 words",
+    "1 words",
+    "2 words",
+    "3 words",
+    "number 0 of an add",
+    "number 1 of an add",
+    "number 2 of an add",
+    "number 3 of an add",
+    "number 6 of an add",
+    "number 8 of an add",
+    "number 9 of an add",
+    "number 10 of an add",
+    "number 12 of an add",
+    "number 0 of a withdrawal",
+    "number 6 of a withdrawal",
+    "number 13 of a withdrawal",
+    "an id used again",
+    "an id used again for another name",
+    "an id used again after others came",
+    "the index is empty again",
+    "8, and then room again",
+    "8 for what fitted before",
+    "the index fills the words",
+    "256 names",
+    "256 names, one withdrawn, and 256 again",
+    "9 at 256 names",
+    "10 at 256 names",
+    "a bad name at 256 names",
+    "an id that was never live withdrawn",
+    "an id withdrawn twice",
+    "all three: accepted, refused, withdrawn",
+    "ids added in falling order",
+    "a run of 200 calls that ran out of room",
+];
+
+/// Counts what a run of calls shows, call by call.
+fn tally_run(tally: &mut Tally, length: usize, calls: &[Call]) {
+    let mut words = vec![0; length];
+    build(b"", &mut words);
+    if length <= 3 {
+        tally.count(format!("{length} words"));
+    }
+    match calls.len() {
+        0 => tally.count("no calls"),
+        200.. => tally.count("200 calls or more"),
+        _ => (),
+    }
+    // Ids that were withdrawn, with their features of then; names that were refused with 8; names that fitted.
+    let mut gone: BTreeMap<u32, BTreeSet<u32>> = BTreeMap::new();
+    let (mut lacked, mut fitted) = (BTreeSet::new(), BTreeSet::new());
+    let (mut numbers, mut last, mut was_full) = (BTreeSet::new(), None, false);
+    for call in calls {
+        let before = words.clone();
+        let live = live_names(&words).unwrap_or_default();
+        let number = run(&mut words, std::slice::from_ref(call))[0];
+        match call {
+            Call::Add { id, name } => {
+                tally.count(format!("number {number} of an add"));
+                numbers.insert(("add", number));
+                if live.len() == 256 {
+                    match number {
+                        9 | 10 => tally.count(format!("{number} at 256 names")),
+                        _ => tally.count("a bad name at 256 names"),
+                    }
+                }
+                if number == 8 {
+                    lacked.insert(name);
+                    if fitted.contains(name) {
+                        tally.count("8 for what fitted before");
+                    }
+                }
+                if number != 0 {
+                    continue;
+                }
+                fitted.insert(name);
+                if lacked.contains(name) {
+                    tally.count("8, and then room again");
+                }
+                if let Some(of) = gone.get(id) {
+                    tally.count("an id used again");
+                    if *of != features(name).into_iter().collect::<BTreeSet<_>>() {
+                        tally.count("an id used again for another name");
+                    }
+                    if live.keys().any(|other| other > id) {
+                        tally.count("an id used again after others came");
+                    }
+                }
+                if last.is_some_and(|last| *id < last) {
+                    tally.count("ids added in falling order");
+                }
+                last = Some(*id);
+                if live.len() == 255 {
+                    tally.count("256 names");
+                    if was_full {
+                        tally.count("256 names, one withdrawn, and 256 again");
+                    }
+                    was_full = true;
+                }
+                let (n, d, p) = (words[0], words[1], words[2]);
+                if (3 + n + 4 * d + p) as usize == length {
+                    tally.count("the index fills the words");
+                }
+            }
+            Call::Withdraw { id } => {
+                tally.count(format!("number {number} of a withdrawal"));
+                numbers.insert(("withdraw", number));
+                match (number, gone.contains_key(id)) {
+                    (13, true) => tally.count("an id withdrawn twice"),
+                    (13, false) => tally.count("an id that was never live withdrawn"),
+                    _ => (),
+                }
+                if number == 0 {
+                    gone.insert(*id, live[id].clone());
+                    if live.len() == 1 {
+                        tally.count("the index is empty again");
+                    }
+                }
+            }
+        }
+        assert!(number == 0 || words == before);
+    }
+    let refused = numbers.iter().any(|(what, number)| *what == "add" && *number != 0);
+    if refused && numbers.contains(&("add", 0)) && numbers.contains(&("withdraw", 0)) {
+        tally.count("all three: accepted, refused, withdrawn");
+    }
+    if calls.len() >= 200 && numbers.contains(&("add", 8)) {
+        tally.count("a run of 200 calls that ran out of room");
+    }
+}
+
+#[test]
+fn generated_runs_hold_every_case() {
+    let mut tally = Tally::default();
+    for at in 0..3000 {
+        let (length, calls) = run_case(at);
+        tally_run(&mut tally, length, &calls);
+    }
+    for what in NEEDED_OF_CALLS {
+        assert!(tally.0.get(what).copied().unwrap_or(0) >= 3, "{what}: too seldom in {:#?}", tally.0);
     }
 }

@@ -31,7 +31,7 @@ fn examples_give_what_is_printed() {
 }
 
 /// What does not follow a protocol, and what is said of it.
-const REFUSED: [(Kind, &str, &str); 12] = [
+const REFUSED: [(Kind, &str, &str); 20] = [
     (Kind::Features, "4C4\n", "line 1: name is 4C4"),
     (Kind::Features, "4C 41\n", "line 1: 41 is one too many"),
     (Kind::Features, "4C\n\n", "line 2: no name"),
@@ -44,6 +44,14 @@ const REFUSED: [(Kind, &str, &str); 12] = [
     (Kind::LogFrames, "write 4C 12 65536 6 6\n", "line 1: day is 65536"),
     (Kind::Import, "1 1 1 6 0 -\n", "line 1: pairs is -"),
     (Kind::Import, "1 1 1 6 0 0\n", "line 1: no log"),
+    (Kind::Add, "65536 41 0 0 0\n", "line 1: id is 65536"),
+    (Kind::Add, "1\n", "line 1: no name"),
+    (Kind::Withdraw, "\n", "line 1: no id"),
+    (Kind::Withdraw, "1 0 0 4294967296\n", "line 1: word is 4294967296"),
+    (Kind::Calls, "\n", "line 1: no length"),
+    (Kind::Calls, "3 5\n", "line 1: call is 5"),
+    (Kind::Calls, "3 -65536\n", "line 1: call is -65536"),
+    (Kind::Calls, "3 -5 +5\n", "line 1: call is +5"),
 ];
 
 #[test]
@@ -53,4 +61,6 @@ fn a_line_that_does_not_follow_its_protocol() {
     }
     // Hexadecimal words, and an empty slice: a line without words.
     assert_eq!(Kind::Good.answer(b"0x0 0x0 0x00\n\n0 0 0 0xFFFFFFFF\n").unwrap(), b"1\n0\n1\n");
+    // A run without calls, and one of no words either.
+    assert_eq!(Kind::Calls.answer(b"3\n0\n4 -0x5\n").unwrap(), b"0 0 0\n\n13 0 0 0 4294967295\n");
 }

@@ -14,3 +14,4 @@ pub mod CutsWithdrawn
 pub mod CutsNoted
 pub mod CutsAppend
 pub mod Thinned
+pub mod Again

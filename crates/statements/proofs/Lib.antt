@@ -10,3 +10,5 @@ pub mod Program
 pub mod Former
 pub mod LogFrames
 pub mod Leaflet
+pub mod Registers
+pub mod Live

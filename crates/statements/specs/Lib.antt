@@ -4,3 +4,4 @@ pub mod Program
 pub mod Former
 pub mod LogFrames
 pub mod Leaflet
+pub mod Live

@@ -8,6 +8,7 @@ ghost use Rattle.frames.specs.Frames.{nameFrame, queryFrame, rowFrame, endFrame
 ghost use Rattle.index.specs.Good.{goodOf};
 ghost use Rattle.lists.specs.Lists.{spanFor};
 ghost use Rattle.register.specs.Build.{builtOf, wordsAfter};
+ghost use Rattle.upkeep.specs.Upkeep.{addedOf, wordsAdded, withdrawnOf, wordsWithdrawn};
 ghost use Rattle.search.specs.Answers.{searchOf, asColumns, roomOf, columnsAfter};
 ghost use Rattle.rows.specs.Rows.{rowsAfter};
 ghost use Rattle.log_frames.specs.Frames.{logFrame};
@@ -117,6 +118,24 @@ pub extern "C" fn rushgirdle_build(register: &[u8], words: &mut [u32]) -> BuildA
         number: b.number,
         line: b.line,
     }
+}
+
+// Adds a name under an id.
+#[no_mangle]
+pub extern "C" fn rushgirdle_add(words: &mut [u32], id: u16, name: &[u8]) -> u8
+    ensures { λ r. ⌜ r ≡ addedOf (now (words .entry)) id (now (name .entry)) ⌝ }
+    ensures { λ _. ⌜ now (words .exit) ≡ wordsAdded (now (words .entry)) id (now (name .entry)) ⌝ }
+{
+    upkeep::add(words, id, name)
+}
+
+// Withdraws an id.
+#[no_mangle]
+pub extern "C" fn rushgirdle_withdraw(words: &mut [u32], id: u16) -> u8
+    ensures { λ r. ⌜ r ≡ withdrawnOf (now (words .entry)) id ⌝ }
+    ensures { λ _. ⌜ now (words .exit) ≡ wordsWithdrawn (now (words .entry)) id ⌝ }
+{
+    upkeep::withdraw(words, id)
 }
 
 // Whether the words are a good index.

@@ -1,10 +1,9 @@
 //! Inputs of an import: one line of its protocol, and whole inputs of the program `importer`.
 
 use crate::build::{words_of_names, Registered};
-use crate::features::control;
 use crate::generate::{lines, logs, names, registers, words};
 use crate::import::{import as import_log, Outcomes, Pairs};
-use crate::limits::{FRAME_NAME, IMPORTER_INPUT, INDEX_WORDS, LOG_LINES, NAMES, NAME_BYTES};
+use crate::limits::{FRAME_NAME, IMPORTER_INPUT, INDEX_WORDS, LOG_LINES, NAMES};
 use crate::protocol::{pairs, spaced};
 use crate::random::Random;
 
@@ -267,16 +266,10 @@ fn longest(random: &mut Random) -> Vec<u8> {
     [first, settings, log].concat()
 }
 
-/// Up to 256 names of 63 and 64 bytes that share next to nothing: an index near the largest there is.
+/// Up to 256 names of 63 and 64 bytes: an index near the largest there is.
 fn wide(random: &mut Random) -> Vec<u8> {
     let count = random.between(NAMES - 6, NAMES);
-    let letters: Vec<u8> = (0..=255).filter(|byte| !control(*byte)).collect();
-    let name = |random: &mut Random| {
-        let length = random.between(NAME_BYTES - 1, NAME_BYTES);
-        (0..length).map(|_| random.pick(&letters)).collect()
-    };
-    let ids = registers::ids(random, count);
-    let register: Vec<Registered> = ids.into_iter().map(|id| Registered { id, name: name(random) }).collect();
+    let register = registers::wide(random, count);
     three(random, &register, 1).concat()
 }
 

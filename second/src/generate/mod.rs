@@ -8,6 +8,7 @@ pub mod logs;
 pub mod names;
 pub mod queries;
 pub mod registers;
+mod upkeep;
 pub mod words;
 
 use crate::protocol::{spaced, Kind};
@@ -29,6 +30,9 @@ pub fn input(kind: Kind, seed: u64, at: u64) -> Vec<u8> {
         Kind::Importer => return imports::importer(&mut random),
         Kind::LogFrames => cases::log_frames,
         Kind::ImportFrames => cases::import_frames,
+        Kind::Add => upkeep::add,
+        Kind::Withdraw => upkeep::withdraw,
+        Kind::Calls => upkeep::calls,
         Kind::Sweep => {
             let mut of_index = Random::of(seed, kind as u64, at / words::STRETCH);
             return [spaced(&words::swept(&mut of_index, at % words::STRETCH)).into_bytes(), b"\n".to_vec()].concat();

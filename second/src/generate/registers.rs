@@ -1,6 +1,7 @@
 //! Registers: names under ascending ids, lines that hold them, and damage to the lines.
 
 use crate::build::{words_of_names, Registered};
+use crate::features::control;
 use crate::frames::write_name;
 use crate::generate::{lines, names};
 use crate::limits::{MOST_ID, NAMES, NAME_BYTES};
@@ -87,6 +88,17 @@ pub fn filling(random: &mut Random, total: usize) -> Vec<Registered> {
         left -= takes;
     }
     with_ids(&names, &ids)
+}
+
+/// A register of names of 63 and 64 bytes that share next to nothing, so that nearly each feature has a row of its own.
+pub fn wide(random: &mut Random, count: usize) -> Vec<Registered> {
+    let letters: Vec<u8> = (0..=255).filter(|byte| !control(*byte)).collect();
+    let name = |random: &mut Random| {
+        let length = random.between(NAME_BYTES - 1, NAME_BYTES);
+        (0..length).map(|_| random.pick(&letters)).collect()
+    };
+    let ids = ids(random, count);
+    ids.into_iter().map(|id| Registered { id, name: name(random) }).collect()
 }
 
 /// The line of a registered name. An id beyond two bytes keeps its low ones; the caller wants it damaged anyway.

@@ -1,0 +1,5 @@
+pub mod Laws
+pub mod Judging
+pub mod Names
+pub mod Adding
+pub mod Withdrawing
