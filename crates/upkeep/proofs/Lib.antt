@@ -3,3 +3,4 @@ pub mod Judging
 pub mod Names
 pub mod Adding
 pub mod Withdrawing
+mod Cases
