@@ -1,2 +1,3 @@
 mod Digits
 pub mod Search
+pub mod Seats

@@ -2,7 +2,7 @@
 -- Assumes nothing.
 use mathlib.Core.Path.{_≡_, refl, sym, ap, _∙_}
 use mathlib.Core.Logic.{⊎-elim}
-use mathlib.Core.Bool.{Bool, true, false, cond, _&&_}
+use mathlib.Core.Bool.{Bool, true, false, cond}
 use mathlib.Core.List.{List}
 use Prim.Native.Nat.{ℕ, _*_, _≤_, _<_}
 use native.Mathlib.Nat.{eq-or-lt-of-le, zero-add, one-mul}
@@ -67,17 +67,6 @@ place-holds l x r a e h = by-test (eqb (getD l r 0) x) refl
 pub place-past : (l : List ℕ) (x r : ℕ) → Ascending l → r ≡ countOf (λ (y : ℕ). ltb y x) l → length l ≤ r → member x l ≡ false
 place-past l x r a e h =
     member-nowhere x l (λ i m q. let u = place-split l x r a e .1 i (omega arith) in omega arith)
-
--- so x is in the list exactly where it stands at its place
-pub place-stands : (l : List ℕ) (x r : ℕ) → Ascending l → r ≡ countOf (λ (y : ℕ). ltb y x) l
-    → ltb r (length l) && eqb (getD l r 0) x ≡ member x l
-place-stands l x r a e =
-    ⊎-elim
-    (λ (h : length l ≤ r).
-    ap (λ (b : Bool). b && eqb (getD l r 0) x) (le-ltb r (length l) h) ∙ sym (place-past l x r a e h))
-    (λ (h : r < length l).
-    ap (λ (b : Bool). b && eqb (getD l r 0) x) (lt-ltb r (length l) h) ∙ place-holds l x r a e h)
-    (le-or-lt (length l) r)
 
 -- where x stands is its place
 pub place-met : (l : List ℕ) (x i : ℕ) → Ascending l → i < length l → getD l i 0 ≡ x → i ≡ countOf (λ (y : ℕ). ltb y x) l

@@ -1,13 +1,14 @@
-// The binary search of a column of words, a list of ids among them, and the powers of two that it goes by. What is right is `countOf` and
-// `countBelow` of the crate laws.
+// The binary search of a column of words, with the powers of two that it goes by, and where a number stands in an ascending list. What is right is
+// `countBelow` of the crate laws, and `seatOf` of specs/Seats.antt.
 ghost use mathlib.Core.Path.{_≡_};
-ghost use mathlib.Core.Bool.{cond, _&&_};
+ghost use mathlib.Core.Bool.{cond};
 ghost use Prim.Native.Nat.{ℕ, _+_, _*_, _^_, _≤_, _<_};
-ghost use lib.ListN.{length, getD};
-ghost use lib.Dec.{ltb, eqb};
-ghost use Rattle.laws.specs.Lists.{Ascending, countOf};
+ghost use lib.ListN.{length};
+ghost use lib.Dec.{ltb};
+ghost use Rattle.laws.specs.Lists.{Ascending};
 ghost use Rattle.laws.specs.Below.{countBelow};
 ghost use Rattle.binary_search.specs.Column.{columnAt, Rising};
+ghost use Rattle.binary_search.specs.Seats.{seatPlace, seatOf};
 
 // 2 to the power of k.
 fn power(k: u32) -> usize
@@ -66,33 +67,46 @@ pub fn place_in_column(words: &[u32], first: usize, width: usize, n: usize, x: u
     base
 }
 
-// How many ids of an ascending list are below x: the place of x where it is there, and the place at which it would have to be put in.
-pub fn place_in(list: &[u32], x: u32) -> usize
-    requires { ⌜ Ascending (now list) ⌝ }
-    ensures { λ r. ⌜ r ≡ countOf (λ (y : ℕ). ltb y x) (now (list .entry)) ⌝ }
-{
-    place_in_column(list, 0, 1, list.len(), x as u64)
+// Where a number stands in an ascending list: at that place where it is there, and otherwise before the one at that place, or behind all. Either way so
+// many are below it.
+pub enum Seat {
+    At(usize),
+    Before(usize),
 }
 
-// Whether x stands at that place of a list; at no place past its end.
-pub fn stands_at(list: &[u32], at: usize, x: u32) -> bool
-    ensures { λ r. ⌜ r ≡ ltb at (length (now (list .entry))) && eqb (getD (now (list .entry)) at 0) x ⌝ }
+// The place of a seat, either way.
+pub fn place_of(seat: Seat) -> usize
+    ensures { λ r. ⌜ r ≡ seatPlace seat ⌝ }
 {
-    if at < list.len() {
-        return list[at] == x;
+    match seat {
+        Seat::At(place) => place,
+        Seat::Before(place) => place,
     }
-    false
 }
 
-// What place_in answers; where x stands at `guess`, nothing is searched.
-pub fn place_near(list: &[u32], x: u32, guess: usize) -> usize
+// The seat of x in an ascending list.
+pub fn seat_in(list: &[u32], x: u32) -> Seat
     requires { ⌜ Ascending (now list) ⌝ }
-    ensures { λ r. ⌜ r ≡ countOf (λ (y : ℕ). ltb y x) (now (list .entry)) ⌝ }
+    ensures { λ r. ⌜ r ≡ seatOf (now (list .entry)) x ⌝ }
+{
+    let at = place_in_column(list, 0, 1, list.len(), x as u64);
+    if at < list.len() {
+        if list[at] == x {
+            return Seat::At(at);
+        }
+    }
+    Seat::Before(at)
+}
+
+// The same; where x stands at `guess`, nothing is searched.
+pub fn seat_near(list: &[u32], x: u32, guess: usize) -> Seat
+    requires { ⌜ Ascending (now list) ⌝ }
+    ensures { λ r. ⌜ r ≡ seatOf (now (list .entry)) x ⌝ }
 {
     if guess < list.len() {
         if list[guess] == x {
-            return guess;
+            return Seat::At(guess);
         }
     }
-    place_in(list, x)
+    seat_in(list, x)
 }

@@ -8,6 +8,7 @@ ghost use Rattle.laws.specs.Lists.{Ascending, member};
 ghost use Rattle.names.specs.Features.{mostFeatures};
 ghost use Rattle.index.specs.Good.{mostNames};
 ghost use Rattle.candidates.specs.Tables.{Known, MetBy, noCounts, tallied, tested, kept, cutAt, cutLists, Readable, remainTable, Gathered, Narrowed, Walked};
+use binary_search::Seat;
 
 // ---- one list against the tables by a name's place
 
@@ -21,7 +22,8 @@ fn tally(ids: &[u32], list: &[u32], counts: &mut [u32], met: &mut [usize], alrea
     let mut next = 0;
     let mut k = 0;
     while k < list.len() {
-        let i = binary_search::place_near(ids, list[k], next);
+        let seat = binary_search::seat_near(ids, list[k], next);
+        let i = binary_search::place_of(seat);
         next = i + 1;
         let count = counts[i];
         if count == 0 {
@@ -45,14 +47,14 @@ fn counted(list: &[u32], id: u32, count: u32, guess: usize) -> Tested
     requires { ⌜ Ascending (now list) × (count ≤ 65535) ⌝ }
     ensures { λ r. ⌜ (r .count ≡ count + cond (member id (now (list .entry))) 1 0) × (r .count ≤ 65536) ⌝ }
 {
-    let at = binary_search::place_near(list, id, guess);
-    if binary_search::stands_at(list, at, id) {
-        return Tested {
+    let seat = binary_search::seat_near(list, id, guess);
+    match seat {
+        Seat::At(at) => Tested {
             count: count + 1,
             next: at + 1,
-        };
+        },
+        Seat::Before(at) => Tested { count, next: at },
     }
-    Tested { count, next: at }
 }
 
 // Tests each candidate against the list, and drops those whose count is then below what is needed. Answers how many remain.

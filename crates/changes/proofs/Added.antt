@@ -17,7 +17,7 @@ use Rattle.index_writer.specs.Built.{Entry, noEntry, wordOf, Row, idSpan, tripl
 use Rattle.index_writer.proofs.Runs.{triples-runs, runs-unique, triples-ascending}
 use Rattle.index_writer.proofs.Entries.{entries-place, id-member}
 use Rattle.index_writer.proofs.Built.{rows-of-fit, rows-triples, triples-sort}
-use Rattle.changes.specs.Places.{placeOf}
+use Rattle.binary_search.specs.Seats.{placeOf}
 use Rattle.changes.specs.Names.{idsOf, withEntry}
 use Rattle.changes.specs.Rows.{putPosting, withPostings}
 use Rattle.changes.proofs.Lists.{ascending-drop}

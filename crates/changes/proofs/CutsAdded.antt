@@ -25,7 +25,7 @@ use Rattle.index_writer.specs.Built.{Row, noRow, listsOf, rowWords, RowFit, Row
 use Rattle.index_writer.proofs.Read.{length-row-words}
 use Rattle.splicing.specs.Splice.{putAt, putIn}
 use Rattle.splicing.proofs.Laws.{length-put-in, put-in-append}
-use Rattle.changes.specs.Places.{placeOf}
+use Rattle.binary_search.specs.Seats.{placeOf}
 use Rattle.changes.specs.Rows.{keysIn, loneRow, rowWith, putPosting, withPostings}
 use Rattle.changes.specs.Cuts.{RowsShort, ofFeatures, hasRow, rowSeat, postingSeat, placedFrom, rowCuts, newRows, postingCuts}
 use Rattle.changes.proofs.Lists.{place-passed, place-first, place-mono, insert-place, sorted-map, put-in-same, put-at-left, put-at-right}

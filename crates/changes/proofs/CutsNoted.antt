@@ -26,7 +26,8 @@ use Rattle.index_writer.specs.Built.{Row, noRow, listsOf, RowFit}
 use Rattle.index_writer.specs.Contents.{rowIn, allRowsIn, Narrow}
 use Rattle.index_writer.proofs.Plain.{good-plain}
 use Rattle.index_writer.proofs.Holders.{rows-fit}
-use Rattle.changes.specs.Places.{placeOf, othersOf}
+use Rattle.binary_search.specs.Seats.{placeOf}
+use Rattle.changes.specs.Others.{othersOf}
 use Rattle.changes.specs.Cuts.{RowsAs, thinRow, thinTo, cutsOf, emptyWords, emptyCuts, idPlace, idCuts, withdrawCuts}
 use Rattle.changes.proofs.Lists.{map-take, others-none}
 use Rattle.changes.proofs.Placed.{size-at, count-at, count-set}

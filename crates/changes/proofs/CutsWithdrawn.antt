@@ -21,7 +21,8 @@ use Rattle.splicing.proofs.Laws.{length-take-out, take-out-parts}
 use Rattle.words.specs.Words.{headWidth, nameStart, rowWidth, featureSpan}
 use Rattle.index_writer.specs.Built.{Row, noRow, listsOf, rowWords, wordsFrom, RowFit}
 use Rattle.index_writer.proofs.Read.{length-row-words}
-use Rattle.changes.specs.Places.{placeOf, othersOf}
+use Rattle.binary_search.specs.Seats.{placeOf}
+use Rattle.changes.specs.Others.{othersOf}
 use Rattle.changes.specs.Rows.{keptRow, withoutPostings}
 use Rattle.changes.specs.Cuts.{RowsAs, placedFrom, thinRow, cutsOf, emptyWords, emptyCuts, idPlace, idCuts, withdrawCuts, settled}
 use Rattle.changes.proofs.Withdrawn.{lists-withdrawn}

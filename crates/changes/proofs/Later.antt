@@ -19,7 +19,7 @@ use Rattle.laws.proofs.Order.{le-or-lt}
 use Rattle.laws.proofs.Sort.{above-member, ascending-rest}
 use Rattle.words.specs.Words.{keyOf}
 use Rattle.index_writer.specs.Built.{Row, noRow, listsOf}
-use Rattle.changes.specs.Places.{placeOf}
+use Rattle.binary_search.specs.Seats.{placeOf}
 use Rattle.changes.specs.Rows.{keysIn, loneRow, rowWith, putPosting, withPostings}
 use Rattle.changes.proofs.Lists.{place-nil, place-passed, place-over, place-first, place-next, drop-above}
 use Rattle.changes.proofs.Put.{put-nil, put-cases, put-keys, put-met, put-new}

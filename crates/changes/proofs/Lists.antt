@@ -24,7 +24,8 @@ use Rattle.laws.proofs.Sort.{above-member, above-members, from-member, from-mem
 use Rattle.laws.proofs.Tests.{test-fails}
 use Rattle.splicing.specs.Splice.{putAt, putIn}
 use Rattle.splicing.proofs.Laws.{length-put-in, put-in-left, put-in-right}
-use Rattle.changes.specs.Places.{placeOf, othersOf}
+use Rattle.binary_search.specs.Seats.{placeOf}
+use Rattle.changes.specs.Others.{othersOf}
 
 -- ---- absent
 

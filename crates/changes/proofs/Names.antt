@@ -21,7 +21,8 @@ use Rattle.laws.proofs.Sort.{ascending-rest, insert-nil, insert-met, insert-pas
 use Rattle.index.specs.Good.{mostNames}
 use Rattle.index_writer.specs.Built.{Entry, noEntry, wordOf, tripleOf, triplesOf, allTriples, EntryFit, Fit}
 use Rattle.index_writer.proofs.Built.{triples-append}
-use Rattle.changes.specs.Places.{placeOf, othersOf}
+use Rattle.binary_search.specs.Seats.{placeOf}
+use Rattle.changes.specs.Others.{othersOf}
 use Rattle.changes.specs.Names.{idsOf, withEntry, withoutId}
 use Rattle.changes.proofs.Lists.{map-take, map-drop, place-first, place-passed, ascending-insert, absent-rest, others-met, others-passed, others-absent, others-place, filter-map, ascending-filter, each-filter}
 

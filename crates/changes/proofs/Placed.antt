@@ -17,7 +17,7 @@ use Rattle.laws.proofs.Members.{member-head, member-tail, member-nil, member-ca
 use Rattle.laws.proofs.Sort.{above-member, ascending-above, ascending-rest, length-insert}
 use Rattle.words.specs.Words.{nameStart, rowWidth, featureSpan}
 use Rattle.index_writer.specs.Built.{Row, listsOf, rowWords, wordsFrom}
-use Rattle.changes.specs.Places.{placeOf}
+use Rattle.binary_search.specs.Seats.{placeOf}
 use Rattle.changes.specs.Rows.{keysIn, putPosting}
 use Rattle.changes.specs.Cuts.{RowsAs, RowsShort, ofFeatures, placedFrom, settled}
 use Rattle.changes.proofs.Lists.{absent-rest, place-nil, place-passed, place-first}

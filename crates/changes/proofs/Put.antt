@@ -19,7 +19,7 @@ use Rattle.laws.proofs.Sort.{above-member, above-members, ascending-one, ascend
 use Rattle.laws.proofs.Tests.{test-fails}
 use Rattle.index_writer.specs.Built.{Row, noRow, idSpan, rowTriples, triplesFrom, RowFit, RowsFit}
 use Rattle.index_writer.proofs.Runs.{triples-member, triples-ascending}
-use Rattle.changes.specs.Places.{placeOf}
+use Rattle.binary_search.specs.Seats.{placeOf}
 use Rattle.changes.specs.Rows.{keysIn, loneRow, rowWith, putPosting}
 use Rattle.changes.proofs.Lists.{place-nil, place-passed, place-below, ascending-insert}
 

@@ -17,7 +17,8 @@ use Rattle.laws.proofs.Members.{member-at, member-place, member-map-place, memb
 use Rattle.laws.proofs.Sort.{above-member, ascending-nil, ascending-one, ascending-above, ascending-rest, ascending-append}
 use Rattle.laws.proofs.Images.{ascending-map}
 use Rattle.splicing.specs.Splice.{takeAt, takeOut}
-use Rattle.changes.specs.Places.{placeOf, othersOf}
+use Rattle.binary_search.specs.Seats.{placeOf}
+use Rattle.changes.specs.Others.{othersOf}
 use Rattle.changes.proofs.Lists.{place-first, place-passed, others-at, others-none}
 
 -- ---- places of a list in two parts, the first of n elements
@@ -82,7 +83,7 @@ place-at (y ∷ l) a (suc k) h =
 
 module _ (x : ℕ) (l : List ℕ) (up : Ascending l) where
   module _ (m : member x l ≡ true) where
-    pub place-member : (placeOf x l < length l) × (getD l (placeOf x l) 0 ≡ x)
+    place-member : (placeOf x l < length l) × (getD l (placeOf x l) 0 ≡ x)
     place-member =
         let p = member-place x l m in
         let h = p .1 in

@@ -23,7 +23,7 @@ use Rattle.index_writer.specs.Built.{Entry, noEntry, wordOf, Row, idSpan, tripl
 use Rattle.index_writer.proofs.Runs.{triples-runs, runs-unique}
 use Rattle.index_writer.proofs.Entries.{distinct-entries}
 use Rattle.index_writer.proofs.Built.{rows-of-fit}
-use Rattle.changes.specs.Places.{othersOf}
+use Rattle.changes.specs.Others.{othersOf}
 use Rattle.changes.specs.Names.{withoutId}
 use Rattle.changes.specs.Rows.{keysIn, keptRow, withoutPostings}
 use Rattle.changes.proofs.Names.{words-without}

@@ -11,7 +11,8 @@ use lib.Dec.{eqb}
 use Rattle.laws.specs.Lists.{member}
 use Rattle.words.specs.Words.{nameCountAt, rowCountAt, postingCountAt, nameStart, rowWidth, lengthColumn, featureSpan, keyOf}
 use Rattle.index_writer.specs.Built.{Row, noRow, listsOf}
-use Rattle.changes.specs.Places.{placeOf, othersOf}
+use Rattle.binary_search.specs.Seats.{placeOf}
+use Rattle.changes.specs.Others.{othersOf}
 use Rattle.changes.specs.Rows.{keysIn}
 
 -- ---- rows' words, but for the places of their lists

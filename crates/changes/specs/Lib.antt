@@ -1,4 +1,4 @@
-pub mod Places
+pub mod Others
 pub mod Names
 pub mod Rows
 pub mod Cuts

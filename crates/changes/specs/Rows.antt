@@ -8,7 +8,7 @@ use lib.Dec.{eqb, ltb}
 use Rattle.laws.specs.Sort.{insert}
 use Rattle.words.specs.Words.{keyOf}
 use Rattle.index_writer.specs.Built.{Row}
-use Rattle.changes.specs.Places.{othersOf}
+use Rattle.changes.specs.Others.{othersOf}
 
 -- the keys, in order
 abbrev pub keysIn : List Row → List ℕ

@@ -1,27 +1,28 @@
 -- Laws of a good index that the layers above cite: its names, its rows' lists, and what is not looked at.
 -- Assumes nothing.
 use mathlib.Core.Path.{_≡_, sym, ap, subst, _∙_}
-use mathlib.Core.Logic.{⊎-elim}
 use mathlib.Core.Bool.{true, false, _&&_}
 use mathlib.Core.List.{List}
 use Prim.Native.Nat.{ℕ, _+_, _≤_, _<_}
-use native.Mathlib.Nat.{eq-or-lt-of-le, min-le-right}
+use native.Mathlib.Nat.{min-le-right}
 use native.Mathlib.Omega.{arith}
 use lib.ListN.{length, take, replicate, length-take, length-replicate, getD-replicate}
 use lib.Seq.{length-take-le}
-use lib.Dec.{ltb, eqb}
-use borrow.Author.Tests.{lt-ltb, le-ltb, eqb-true}
+use lib.Dec.{eqb}
+use borrow.Author.Tests.{eqb-true}
 use Rattle.laws.specs.Lists.{member, Ascending}
 use Rattle.laws.proofs.Below.{and-left, and-right, any-at}
 use Rattle.laws.proofs.Tests.{same-test, test-fails}
 use Rattle.laws.proofs.Ascending.{rises, rises-apart, ascending-next}
 use Rattle.laws.proofs.Members.{member-place}
-use Rattle.laws.proofs.BinarySearch.{count-below-place}
+use Rattle.binary_search.specs.declared.Seat.the-variants.{At}
+use Rattle.binary_search.specs.Seats.{seatOf}
 use Rattle.words.specs.Words.{headWidth, nameCount, rowCount, postingCount, nameId, nameSize, rowSize, rowPlace, rowLength, posting, listAt, total}
-use Rattle.index.specs.Good.{mostNames, mostPostings, isName, Good, headGood, namesGood, rowsGood, listsGood, goodOf}
-use Rattle.index.specs.Check.{namePlace, Checked}
+use Rattle.index.specs.Good.{mostNames, mostPostings, idsIn, isName, Good, headGood, namesGood, rowsGood, listsGood, goodOf}
+use Rattle.index.specs.Check.{Named}
 use Rattle.index.proofs.Total.{total-same, total-good}
 use Rattle.index.proofs.Facts.{Whole, good-facts, length-list, list-getD}
+use Rattle.index.proofs.Names.{seat-of-name}
 
 -- ---- the head
 
@@ -50,6 +51,17 @@ good-ids-apart w g = rises-apart (nameCount w) (nameId w) (good-ids w g)
 pub good-name-within : (w : List ℕ) → Good w → (i : ℕ) → i < nameCount w
     → (nameId w i ≤ 65535) × (3 ≤ nameSize w i) × (nameSize w i ≤ 66)
 good-name-within w g i l = let n = good-facts w g .names in (n .id i l, n .least i l, n .most i l)
+
+-- its head and its names are good
+pub good-named : (w : List ℕ) → Good w → Named w
+unfolding goodOf
+good-named w g =
+    let a = and-left (headGood w && namesGood w) (rowsGood w) (and-left (headGood w && namesGood w && rowsGood w) (listsGood w) g) in
+    record { head = and-left (headGood w) (namesGood w) a; names = and-right (headGood w) (namesGood w) a }
+
+-- the name at an id's seat has the id
+pub good-seat : (w : List ℕ) → Good w → (id i : ℕ) → seatOf (idsIn w) id ≡ At i → (i < nameCount w) × (nameId w i ≡ id)
+good-seat w g = seat-of-name w (good-named w g)
 
 -- ---- the lists, row by row
 
@@ -125,16 +137,3 @@ refused-not-good n =
     let long : length w ≡ n = length-replicate n 4294967295 in
     let first : nameCount w ≡ 4294967295 = getD-replicate n 0 4294967295 0 (omega arith) in
     omega arith)
-
--- a name's place is found by its id
-pub good-place : (w : List ℕ) → Good w → (i : ℕ) → i < nameCount w → namePlace w (nameId w i) ≡ i
-unfolding namePlace
-good-place w g i l =
-    count-below-place (λ (j : ℕ). ltb (nameId w j) (nameId w i)) (nameCount w) i (omega arith)
-    (λ j h. lt-ltb (nameId w j) (nameId w i) (good-ids w g j i h l))
-    (λ j h m.
-    le-ltb (nameId w j) (nameId w i)
-    (⊎-elim
-    (λ (e : i ≡ j). let q = ap (nameId w) e in omega arith)
-    (λ (p : i < j). let q = good-ids w g i j p m in omega arith)
-    (eq-or-lt-of-le h)))

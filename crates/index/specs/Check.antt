@@ -5,7 +5,7 @@ use mathlib.Core.Bool.{true, _&&_}
 use mathlib.Core.List.{List}
 use Prim.Native.Nat.{ℕ, _<_}
 use lib.ListN.{getD}
-use lib.Dec.{ltb, eqb}
+use lib.Dec.{eqb}
 use Rattle.laws.specs.Lists.{member}
 use Rattle.laws.specs.First.{firstFrom}
 use Rattle.laws.specs.Below.{countBelow}
@@ -21,10 +21,6 @@ pub record Named (w : List ℕ) : Type 0 where
 pub record Checked (w : List ℕ) : Type 0 where
   pub named : Named w
   pub rows : rowsGood w ≡ true
-
--- how many names have an id below: the place of the id's name, where it is one
-unfoldable pub namePlace : List ℕ → ℕ → ℕ
-namePlace w id = countBelow (nameCount w) (λ (i : ℕ). ltb (nameId w i) id)
 
 -- the place of the name of that id and that size; N where there is none
 unfoldable pub nameFor : List ℕ → ℕ → ℕ → ℕ

@@ -7,7 +7,7 @@ use mathlib.Core.List.{List}
 use Prim.Native.Nat.{ℕ, zero, suc, _+_, _-_, _*_}
 use lib.ListN.{length}
 use lib.Dec.{leb, ltb, eqb}
-use Rattle.laws.specs.Lists.{member}
+use Rattle.laws.specs.Lists.{member, tabulate}
 use Rattle.laws.specs.Below.{allBelow, anyBelow, sumBelow, countBelow}
 use Rattle.names.specs.Features.{sizeOf, gramLength, mostFeatures}
 use Rattle.words.specs.Words.{headWidth, nameCount, rowCount, postingCount, nameId, nameSize, rowSize, rowFeature, rowPlace, rowLength, posting, listAt, total}
@@ -35,6 +35,10 @@ headGood w =
     leb headWidth (length w) && leb (nameCount w) mostNames && leb (postingCount w) mostPostings && leb (total w) (length w)
 
 -- ---- the names
+
+-- their ids, in order
+unfoldable pub idsIn : List ℕ → List ℕ
+idsIn w = tabulate (nameId w) (nameCount w)
 
 -- a name's id is at most 65,535 and its size is 3 to 66
 unfoldable pub nameGood : List ℕ → ℕ → Bool

@@ -6,8 +6,10 @@ ghost use lib.ListN.{length, getD};
 ghost use lib.Dec.{eqb};
 ghost use Rattle.laws.specs.Below.{allBelow};
 ghost use Rattle.words.specs.Words.{nameCount, rowCount, nameWidth, nameStart, nameSize};
-ghost use Rattle.index.specs.Good.{headGood, nameGood, namesGood, rowsGood, listGood, listsGood, goodOf};
-ghost use Rattle.index.specs.Check.{Named, Checked, Tallied, namePlace, nameFor, guessRoom};
+ghost use Rattle.binary_search.specs.Seats.{seatOf};
+ghost use Rattle.index.specs.Good.{idsIn, headGood, nameGood, namesGood, rowsGood, listGood, listsGood, goodOf};
+ghost use Rattle.index.specs.Check.{Named, Checked, Tallied, nameFor, guessRoom};
+use binary_search::Seat;
 
 // The most names, the most postings, the largest id, the least and the largest size of a good index.
 pub const MOST_NAMES: usize = 256;
@@ -97,17 +99,29 @@ fn rows_good(words: &[u32]) -> bool
     due == words::posting_count(words)
 }
 
-// How many names have an id below: the place of the id's name, where it is one.
-pub fn name_place(words: &[u32], id: u32) -> usize
+// Where the id stands among the names' ids.
+pub fn name_seat(words: &[u32], id: u32) -> Seat
     requires { ⌜ Named (now words) ⌝ }
-    ensures { λ r. ⌜ r ≡ namePlace (now (words .entry)) id ⌝ }
+    ensures { λ r. ⌜ r ≡ seatOf (idsIn (now (words .entry))) id ⌝ }
 {
     let names = words::name_count(words);
     if LARGEST_ID < id {
-        return names;
+        return Seat::Before(names);
     }
     let first = words::SIZE_ROOM as u64 * id as u64;
-    binary_search::place_in_column(words, words::NAMES_START, words::NAME_WIDTH, names, first)
+    let at = binary_search::place_in_column(
+        words,
+        words::NAMES_START,
+        words::NAME_WIDTH,
+        names,
+        first,
+    );
+    if at < names {
+        if words::name_id(words, at) == id {
+            return Seat::At(at);
+        }
+    }
+    Seat::Before(at)
 }
 
 // The place of the name of that id and that size; N where there is none.
@@ -116,13 +130,12 @@ fn name_for(words: &[u32], size: u32, id: u32) -> usize
     ensures { λ r. ⌜ r ≡ nameFor (now (words .entry)) size id ⌝ }
 {
     let names = words::name_count(words);
-    let at = name_place(words, id);
-    if at < names {
-        if words::name_id(words, at) == id {
-            if words::name_size(words, at) == size {
-                return at;
-            }
-        }
+    let seat = name_seat(words, id);
+    let Seat::At(at) = seat else {
+        return names;
+    };
+    if words::name_size(words, at) == size {
+        return at;
     }
     names
 }

@@ -1,13 +1,17 @@
 // The list of a size and a feature, and the rows of one size. The rule: docs/RULE.md, "Index words"; the definitions: specs/.
 ghost use mathlib.Core.Path.{_≡_};
 ghost use mathlib.Core.Bool.{cond};
-ghost use Prim.Native.Nat.{_+_, _^_, _<_};
+ghost use Prim.Native.Nat.{_+_, _^_, _≤_, _<_};
 ghost use lib.Dec.{eqb};
-ghost use Rattle.words.specs.Words.{postingsStart, partRows, partFeature, partPlace, partLength};
+ghost use lib.ListN.{length};
+ghost use Rattle.laws.specs.Lists.{Ascending};
+ghost use Rattle.words.specs.Words.{postingsStart, rowWidth, rowStart, rowLength, listStart, listAt, partRows, partFeature, partPlace, partLength};
+ghost use Rattle.binary_search.specs.Seats.{seatOf};
 ghost use Rattle.index.specs.Good.{Good};
 ghost use Rattle.lists.specs.Part.{cut, Part};
 ghost use Rattle.lists.specs.Lists.{spanIn, spanFor};
 ghost use Rattle.lists.specs.Sizes.{sizeSpan};
+use binary_search::Seat;
 
 // ---- the rows of one size
 
@@ -76,6 +80,16 @@ pub fn place_for_good(words: &[u32], size: u32, feature: u64) -> Place
     let rows = rows_of_size(words, size);
     let first = words::postings_start(words);
     place_among(words, rows, first, size, feature)
+}
+
+// Where an id stands in row r's list.
+pub fn id_seat(words: &[u32], r: usize, id: u32) -> Seat
+    requires { ⌜ (rowStart (now words) r + rowWidth ≤ length (now words)) × (listStart (now words) r + rowLength (now words) r ≤ length (now words)) × Ascending (listAt (now words) r) ⌝ }
+    ensures { λ s. ⌜ s ≡ seatOf (listAt (now (words .entry)) r) id ⌝ }
+{
+    let start = words::postings_start(words) + words::row_place(words, r);
+    let end = start + words::row_length(words, r);
+    binary_search::seat_in(&words[start..end], id)
 }
 
 // The list of a size and a feature of a good index, as that part of the words; the empty part where there is no such row.

@@ -9,9 +9,9 @@ ghost use Rattle.likeness.specs.Measures.{goodMeasure, goodThreshold};
 ghost use Rattle.laws.specs.Sort.{sortOf};
 ghost use Rattle.names.specs.Names.{judgeOf};
 ghost use Rattle.names.specs.Features.{featuresOf};
-ghost use Rattle.index.specs.Good.{goodOf, Good, mostNames};
+ghost use Rattle.index.specs.Good.{goodOf, Good, mostNames, idsIn};
 ghost use Rattle.words.specs.Words.{nameCount, nameId, nameSize};
-ghost use Rattle.sizes.specs.Tables.{idsOf, Covered};
+ghost use Rattle.sizes.specs.Tables.{Covered};
 ghost use Rattle.search.specs.Answers.{questionOf, over, asColumns, Searched};
 ghost use Rattle.search.specs.Places.{placesIn};
 use candidates::Spent;
@@ -36,7 +36,7 @@ pub enum Answer {
 // Their ids in order, put at the front of a table.
 fn name_ids(words: &[u32], table: &mut [u32])
     requires { ⌜ Good (now words) × (nameCount (now words) ≤ length (now table)) ⌝ }
-    ensures { λ _. ⌜ now (table .exit) ≡ idsOf (now (words .entry)) ++ drop (nameCount (now (words .entry))) (now (table .entry)) ⌝ }
+    ensures { λ _. ⌜ now (table .exit) ≡ idsIn (now (words .entry)) ++ drop (nameCount (now (words .entry))) (now (table .entry)) ⌝ }
 {
     let n = words::name_count(words);
     let mut i = 0;
@@ -106,7 +106,7 @@ fn cover_sizes(
     ids: &[u32],
     answers: &mut [u32],
 ) -> Spent
-    requires { ⌜ Good (now words) × (now ids ≡ idsOf (now words)) × (judgeOf (now query) ≡ 0) × (goodMeasure measure ≡ true) × (now answers ≡ replicate mostNames 0) ⌝ }
+    requires { ⌜ Good (now words) × (now ids ≡ idsIn (now words)) × (judgeOf (now query) ≡ 0) × (goodMeasure measure ≡ true) × (now answers ≡ replicate mostNames 0) ⌝ }
     ensures { λ r. ⌜ Covered (now (words .entry)) measure p q (sortOf (featuresOf (now (query .entry)))) allowance (now (answers .exit)) (r .past) (r .touches) ⌝ }
 {
     let set = names::features(query);

@@ -3,15 +3,15 @@
 -- Assumes nothing.
 use mathlib.Core.Path.{_≡_, refl, sym, ap, _∙_}
 use mathlib.Core.Logic.{⊎-elim}
-use mathlib.Core.Bool.{Bool, true, false, cond, true≢false}
+use mathlib.Core.Bool.{Bool, true, false, cond}
 use mathlib.Core.List.{List, _++_}
 use Prim.Native.Nat.{ℕ, _+_, _*_, _-_, _≤_, _<_}
 use native.Mathlib.Nat.{eq-or-lt-of-le, add-zero}
 use native.Mathlib.Omega.{arith}
 use lib.ListN.{length, getD, take, drop, take-append-drop, length-map}
 use lib.Seq.{take-all}
-use lib.Dec.{ltb, eqb}
-use borrow.Author.Tests.{lt-ltb, le-ltb, eq-eqb, ne-eqb, eqb-true}
+use lib.Dec.{ltb}
+use borrow.Author.Tests.{lt-ltb, le-ltb}
 use Rattle.laws.specs.Lists.{Ascending}
 use Rattle.laws.specs.Below.{countBelow}
 use Rattle.laws.proofs.Lists.{length-tabulate, getD-tabulate, count-le}
@@ -19,9 +19,12 @@ use Rattle.laws.proofs.Below.{sum-below-le}
 use Rattle.laws.proofs.BinarySearch.{count-index, count-below-place}
 use Rattle.laws.proofs.Images.{getD-map-lt}
 use Rattle.laws.proofs.Order.{le-or-lt}
-use Rattle.laws.proofs.Tests.{same-test}
+use Rattle.binary_search.specs.declared.Seat.{Seat}
+use Rattle.binary_search.specs.declared.Seat.the-variants.{At, Before}
 use Rattle.binary_search.specs.Column.{columnAt, Rising}
-use Rattle.binary_search.proofs.Search.{column-split, place-split, place-holds, place-past}
+use Rattle.binary_search.specs.Seats.{placeOf, seatOf}
+use Rattle.binary_search.proofs.Search.{column-split, place-split}
+use Rattle.binary_search.proofs.Seats.{seat-met, seat-not-met, seat-stands, seat-there, seat-missing}
 use Rattle.words.specs.Words.{rowCount, postingCount, rowSize, rowFeature, rowPlace, rowLength, listAt, rowStart, rowWidth, featureColumn, featureSpan, keyOf, total}
 use Rattle.index.specs.Good.{Good, mostPostings}
 use Rattle.index.proofs.Facts.{good-facts, list-within, length-list}
@@ -33,11 +36,14 @@ use Rattle.index_writer.specs.Contents.{rowIn, allRowsIn, namesIn, Narrow}
 use Rattle.index_writer.proofs.Plain.{good-plain}
 use Rattle.index_writer.proofs.Read.{narrow-words, words-in, read-place, read-posting-count}
 use Rattle.index_writer.proofs.Holders.{rows-fit}
-use Rattle.changes.specs.Places.{placeOf}
 use Rattle.changes.specs.Rows.{keysIn}
 use Rattle.changes.specs.Cuts.{hasRow, rowSeat, postingSeat}
 
 -- ---- the rows of any words, by place
+
+-- where the row of a size and a feature stands among them
+abbrev pub seatIn : List ℕ → ℕ → ℕ → Seat
+seatIn w size f = seatOf (keysIn (allRowsIn w)) (keyOf size f)
 
 module _ (w : List ℕ) where
   length-rows : length (allRowsIn w) ≡ rowCount w
@@ -123,15 +129,6 @@ module _ (w : List ℕ) (g : Good w) where
     -- ---- one row's seat
 
     module _ (y f : ℕ) where
-      -- the keys from the seat on are not below
-      seat-split : (r : ℕ) → r ≡ rowSeat y (allRowsIn w) f
-          → (r ≤ rowCount w) × ((i : ℕ) → r ≤ i → i < rowCount w → keyOf y f ≤ keyOf (rowSize w i) (rowFeature w i))
-      seat-split r e =
-          let n = length-keys w in
-          let s = place-split (keysIn (allRowsIn w)) (keyOf y f) r keys-up e in
-          let m = s .0 in
-          (omega arith, λ i h b. (let k = key-at w i b in let l = s .2 i h (omega arith) in omega arith))
-
       -- what a search of the size's rows alone finds
       pub seat-found : f < featureSpan → (a n s c : ℕ) (from : a ≡ rowsUnder w y) (many : n ≡ rowsUnder w (y + 1) - rowsUnder w y) (start : s ≡ rowStart w a)
           → c ≡ countBelow n (λ (i : ℕ). ltb (columnAt w (s + featureColumn) rowWidth i) f)
@@ -176,92 +173,91 @@ module _ (w : List ℕ) (g : Good w) where
             most,
           )
 
-      -- where a row of the size has the seat, its feature tells whether the row is there
-      pub stands-there : (r : ℕ) → r ≡ rowSeat y (allRowsIn w) f → r < rowsUnder w (y + 1)
-          → eqb (rowFeature w r) f ≡ hasRow y (allRowsIn w) f
-      stands-there r e h =
+      -- a row of the size and the feature is at its seat
+      pub row-met : (r : ℕ) → rowsUnder w y ≤ r → r < rowsUnder w (y + 1) → rowFeature w r ≡ f → At r ≡ seatIn w y f
+      row-met r l h e =
           let n = length-keys w in
           let m = under-most w (y + 1) in
           let b : r < rowCount w = omega arith in
+          let z = part-size w g y r l h in
           let k = key-at w r b in
-          let u = seat-split r e .1 r (omega arith) b in
+          seat-met (keysIn (allRowsIn w)) (keyOf y f) r keys-up (omega arith) (omega arith)
+
+      -- and where no row of the size that has the feature has its place, it is missing
+      pub row-not-met : f < featureSpan → (r : ℕ) → r ≡ rowSeat y (allRowsIn w) f → (r < rowsUnder w (y + 1) → rowFeature w r ≡ f → ⊥)
+          → Before r ≡ seatIn w y f
+      row-not-met small r e n =
+          seat-not-met (keysIn (allRowsIn w)) (keyOf y f) r keys-up e
+          (λ h q.
+          let l = length-keys w in
+          let b : r < rowCount w = omega arith in
+          let k = key-at w r b in
           let t = narrow r b in
-          let z = size-under w g (y + 1) r h in
-          let s : rowSize w r ≡ y = omega arith in
-          same-test (eqb (rowFeature w r) f) (eqb (getD (keysIn (allRowsIn w)) r 0) (keyOf y f))
-          (λ q. let v = eqb-true (rowFeature w r) f q in eq-eqb (getD (keysIn (allRowsIn w)) r 0) (keyOf y f) (omega arith))
-          (λ q. let v = eqb-true (getD (keysIn (allRowsIn w)) r 0) (keyOf y f) q in eq-eqb (rowFeature w r) f (omega arith))
-          ∙ place-holds (keysIn (allRowsIn w)) (keyOf y f) r keys-up e (omega arith)
-
-      -- and where none has, it is not there
-      pub stands-not : f < featureSpan → (r : ℕ) → r ≡ rowSeat y (allRowsIn w) f → rowsUnder w (y + 1) ≤ r → false ≡ hasRow y (allRowsIn w) f
-      stands-not small r e h =
-          let n = length-keys w in
           ⊎-elim
-          (λ (l : rowCount w ≤ r). sym (place-past (keysIn (allRowsIn w)) (keyOf y f) r keys-up e (omega arith)))
-          (λ (l : r < rowCount w).
-          let k = key-at w r l in
-          let z = size-from w g (y + 1) r h l in
-          sym (ne-eqb (getD (keysIn (allRowsIn w)) r 0) (keyOf y f) (λ q. omega arith))
-          ∙ place-holds (keysIn (allRowsIn w)) (keyOf y f) r keys-up e (omega arith))
-          (le-or-lt (rowCount w) r)
+          (λ (m : rowsUnder w (y + 1) ≤ r). let z = size-from w g (y + 1) r m b in omega arith)
+          (λ (m : r < rowsUnder w (y + 1)). let z = size-under w g (y + 1) r m in n m (omega arith))
+          (le-or-lt (rowsUnder w (y + 1)) r))
 
-      -- a row that is there stands at its seat
-      pub stands-row : hasRow y (allRowsIn w) f ≡ true → rowSeat y (allRowsIn w) f < rowCount w
-      stands-row e =
+      -- what a row's seat tells
+      pub row-there : (r : ℕ) → seatIn w y f ≡ At r → (hasRow y (allRowsIn w) f ≡ true) × (r ≡ rowSeat y (allRowsIn w) f) × (r < rowCount w)
+      row-there r e =
+          let t = seat-there (keysIn (allRowsIn w)) (keyOf y f) r e in
+          let h = seat-stands (keysIn (allRowsIn w)) (keyOf y f) r keys-up e .0 in
           let n = length-keys w in
-          ⊎-elim
-          (λ (l : rowCount w ≤ rowSeat y (allRowsIn w) f).
-          absurd (true≢false (sym e ∙ place-past (keysIn (allRowsIn w)) (keyOf y f) (rowSeat y (allRowsIn w) f) keys-up refl (omega arith))))
-          (λ (l : rowSeat y (allRowsIn w) f < rowCount w). l)
-          (le-or-lt (rowCount w) (rowSeat y (allRowsIn w) f))
+          (t .0, sym (t .1), omega arith)
+
+      pub row-missing : (r : ℕ) → seatIn w y f ≡ Before r → (hasRow y (allRowsIn w) f ≡ false) × (r ≡ rowSeat y (allRowsIn w) f) × (r ≤ rowCount w)
+      row-missing r e =
+          let t = seat-missing (keysIn (allRowsIn w)) (keyOf y f) r e in
+          let h = place-split (keysIn (allRowsIn w)) (keyOf y f) r keys-up (sym (t .1)) .0 in
+          let n = length-keys w in
+          (t .0, sym (t .1), omega arith)
 
       -- ---- a posting's seat
 
       -- in the list of the row that is there
-      pub posting-there : (id r : ℕ) → r ≡ rowSeat y (allRowsIn w) f → hasRow y (allRowsIn w) f ≡ true
+      pub posting-there : (id r : ℕ) → seatIn w y f ≡ At r
           → postingSeat y id (allRowsIn w) f ≡ length (listsOf (take r (allRowsIn w))) + placeOf id (listAt w r)
-      posting-there id r e b =
-          let l = stands-row b in
-          let q = row-at w r (omega arith) in
+      posting-there id r s =
+          let h = row-there r s in
+          let q = row-at w r (h .2) in
           ap
           (λ (t : Bool).
           length (listsOf (take (rowSeat y (allRowsIn w) f) (allRowsIn w)))
           + cond t (placeOf id ((getD (allRowsIn w) (rowSeat y (allRowsIn w) f) noRow) .list)) 0)
-          b
-          ∙ ap (λ (i : ℕ). length (listsOf (take i (allRowsIn w))) + placeOf id ((getD (allRowsIn w) i noRow) .list)) (sym e)
+          (h .0)
+          ∙ ap (λ (i : ℕ). length (listsOf (take i (allRowsIn w))) + placeOf id ((getD (allRowsIn w) i noRow) .list)) (sym (h .1))
           ∙ ap (λ (x : Row). length (listsOf (take r (allRowsIn w))) + placeOf id (x .list)) q
 
       -- alone in a new row
-      pub posting-new : (id r : ℕ) → r ≡ rowSeat y (allRowsIn w) f → hasRow y (allRowsIn w) f ≡ false
+      pub posting-new : (id r : ℕ) → seatIn w y f ≡ Before r
           → postingSeat y id (allRowsIn w) f ≡ length (listsOf (take r (allRowsIn w)))
-      posting-new id r e b =
+      posting-new id r s =
+          let h = row-missing r s in
           ap
           (λ (t : Bool).
           length (listsOf (take (rowSeat y (allRowsIn w) f) (allRowsIn w)))
           + cond t (placeOf id ((getD (allRowsIn w) (rowSeat y (allRowsIn w) f) noRow) .list)) 0)
-          b
+          (h .0)
           ∙ add-zero (length (listsOf (take (rowSeat y (allRowsIn w) f) (allRowsIn w))))
-          ∙ ap (λ (i : ℕ). length (listsOf (take i (allRowsIn w)))) (sym e)
+          ∙ ap (λ (i : ℕ). length (listsOf (take i (allRowsIn w)))) (sym (h .1))
 
       -- and never past the last posting
       pub posting-most : (id : ℕ) → postingSeat y id (allRowsIn w) f ≤ postingCount w
-      posting-most id = by-test (rowSeat y (allRowsIn w) f) refl (hasRow y (allRowsIn w) f) refl
+      posting-most id = by-seat (seatIn w y f) refl
         where
-          by-test : (r : ℕ) → r ≡ rowSeat y (allRowsIn w) f → (b : Bool) → hasRow y (allRowsIn w) f ≡ b → postingSeat y id (allRowsIn w) f ≤ postingCount w
-          by-test r s true e =
-              let l = stands-row e in
-              let h : r < rowCount w = omega arith in
-              let a = posting-there id r s e in
+          by-seat : (s : Seat) → seatIn w y f ≡ s → postingSeat y id (allRowsIn w) f ≤ postingCount w
+          by-seat (At r) e =
+              let h = row-there r e .2 in
+              let a = posting-there id r e in
               let p = list-place r h in
               let i = list-within w (good-facts w g .rows) r h in
               let n = length-list w (good-facts w g .rows) r h (good-within w g) in
               let c = count-le (λ (x : ℕ). ltb x id) (listAt w r) in
               omega arith
-          by-test r s false e =
-              let m = seat-split r s .0 in
-              let a = posting-new id r s e in
+          by-seat (Before r) e =
+              let a = posting-new id r e in
               ⊎-elim
               (λ (h : r ≡ rowCount w). let q = lists-all r h in omega arith)
               (λ (h : r < rowCount w). let p = list-place r h in let i = list-within w (good-facts w g .rows) r h in omega arith)
-              (eq-or-lt-of-le m)
+              (eq-or-lt-of-le (row-missing r e .2))

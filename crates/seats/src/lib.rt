@@ -4,36 +4,33 @@ ghost use mathlib.Core.List.{[], _∷_, _++_, map};
 ghost use Prim.Native.Nat.{ℕ, _+_, _*_, _^_, _≤_, _<_};
 ghost use lib.ListN.{length, take, replicate};
 ghost use lib.Seq.{sets};
-ghost use Rattle.laws.specs.Lists.{Ascending};
 ghost use Rattle.names.specs.Features.{mostFeatures};
-ghost use Rattle.words.specs.Words.{nameCount, rowCount, nameStart, rowWidth, rowStart, rowLength, listStart, listAt};
+ghost use Rattle.words.specs.Words.{nameCount, rowCount, nameStart, rowWidth, keyOf};
 ghost use Rattle.index.specs.Good.{Good};
 ghost use Rattle.lists.specs.Sizes.{rowsUnder};
 ghost use Rattle.index_writer.specs.Built.{listsOf};
 ghost use Rattle.index_writer.specs.Contents.{allRowsIn};
-ghost use Rattle.changes.specs.Places.{placeOf};
-ghost use Rattle.changes.specs.Cuts.{hasRow, rowSeat, rowCuts, newRows, postingSeat, postingCuts};
+ghost use Rattle.binary_search.specs.Seats.{seatOf};
+ghost use Rattle.changes.specs.Rows.{keysIn};
+ghost use Rattle.changes.specs.Cuts.{rowCuts, newRows, postingSeat, postingCuts};
+use binary_search::Seat;
 
 // ---- one row
 
-// How many rows stand before the row of a size and a feature, sought among the rows `from` to `to`, which are those of the size.
-fn row_seat(words: &[u32], size: u32, from: usize, to: usize, feature: u32) -> usize
+// Where the row of a size and a feature stands among all rows, sought among those from `from` to `to`, which are those of the size.
+fn row_seat(words: &[u32], size: u32, from: usize, to: usize, feature: u32) -> Seat
     requires { ⌜ Good (now words) × (from ≡ rowsUnder (now words) size) × (to ≡ rowsUnder (now words) (size + 1)) ⌝ }
-    ensures { λ r. ⌜ (r ≡ rowSeat size (allRowsIn (now (words .entry))) feature) × (r ≤ to) ⌝ }
+    ensures { λ s. ⌜ s ≡ seatOf (keysIn (allRowsIn (now (words .entry)))) (keyOf size feature) ⌝ }
 {
     let first = words::row_start(words, from) + words::FEATURE_COLUMN;
-    from + binary_search::place_in_column(words, first, words::ROW_WIDTH, to - from, feature as u64)
-}
-
-// Whether there is such a row, r being how many stand before it.
-fn row_stands(words: &[u32], size: u32, r: usize, to: usize, feature: u32) -> bool
-    requires { ⌜ Good (now words) × (r ≡ rowSeat size (allRowsIn (now words)) feature) × (to ≡ rowsUnder (now words) (size + 1)) ⌝ }
-    ensures { λ b. ⌜ b ≡ hasRow size (allRowsIn (now (words .entry))) feature ⌝ }
-{
+    let r = from
+        + binary_search::place_in_column(words, first, words::ROW_WIDTH, to - from, feature as u64);
     if r < to {
-        return words::row_feature(words, r) == feature as u64;
+        if words::row_feature(words, r) == feature as u64 {
+            return Seat::At(r);
+        }
     }
-    false
+    Seat::Before(r)
 }
 
 // How many postings the first r rows have.
@@ -45,16 +42,6 @@ fn list_seat(words: &[u32], r: usize) -> usize
         return words::row_place(words, r);
     }
     words::posting_count(words)
-}
-
-// How many ids of row r's list are below.
-fn id_seat(words: &[u32], r: usize, id: u32) -> usize
-    requires { ⌜ (rowStart (now words) r + rowWidth ≤ length (now words)) × (listStart (now words) r + rowLength (now words) r ≤ length (now words)) × Ascending (listAt (now words) r) ⌝ }
-    ensures { λ v. ⌜ v ≡ placeOf id (listAt (now (words .entry)) r) ⌝ }
-{
-    let start = words::postings_start(words) + words::row_place(words, r);
-    let end = start + words::row_length(words, r);
-    binary_search::place_in(&words[start..end], id)
 }
 
 // ---- a name more
@@ -96,18 +83,22 @@ fn seat(
     requires { ⌜ Good (now words) × (from ≡ rowsUnder (now words) size) × (to ≡ rowsUnder (now words) (size + 1)) × (n + rowWidth ≤ length (now at)) × (n + rowWidth ≤ length (now values)) ⌝ }
     ensures { λ s. ⌜ (s .posting ≡ postingSeat size id (allRowsIn (now (words .entry))) feature) × (s .count ≡ n + length (rowCuts size (allRowsIn (now (words .entry))) (feature ∷ []))) × (take (s .count) (now (at .exit)) ≡ take n (now (at .entry)) ++ map (λ (p : ℕ). nameStart (nameCount (now (words .entry))) + p) (rowCuts size (allRowsIn (now (words .entry))) (feature ∷ []))) × (take (s .count) (now (values .exit)) ≡ take n (now (values .entry)) ++ newRows size (allRowsIn (now (words .entry))) (feature ∷ [])) ⌝ }
 {
-    let r = row_seat(words, size, from, to, feature);
-    let start = list_seat(words, r);
-    if row_stands(words, size, r, to, feature) {
-        return Seated {
-            posting: start + id_seat(words, r, id),
-            count: n,
-        };
-    }
-    put_row(words::row_start(words, r), size, feature, at, values, n);
-    Seated {
-        posting: start,
-        count: n + words::ROW_WIDTH,
+    let row = row_seat(words, size, from, to, feature);
+    match row {
+        Seat::At(r) => {
+            let seat = lists::id_seat(words, r, id);
+            Seated {
+                posting: list_seat(words, r) + binary_search::place_of(seat),
+                count: n,
+            }
+        }
+        Seat::Before(r) => {
+            put_row(words::row_start(words, r), size, feature, at, values, n);
+            Seated {
+                posting: list_seat(words, r),
+                count: n + words::ROW_WIDTH,
+            }
+        }
     }
 }
 

@@ -10,6 +10,7 @@ ghost use Rattle.index_writer.specs.Built.{Row, listsOf};
 ghost use Rattle.index_writer.specs.Written.{padTo};
 ghost use Rattle.settling.specs.Counts.{countAt};
 ghost use Rattle.changes.specs.Cuts.{RowsShort, ofFeatures, placedFrom, settled};
+use binary_search::Seat;
 
 // The count of the row whose words start at `at`: one more than it says if it is of the size and its feature is among the features, which ascend.
 fn count_at(rows: &[u32], at: usize, size: u32, features: &[u32]) -> u32
@@ -21,11 +22,11 @@ fn count_at(rows: &[u32], at: usize, size: u32, features: &[u32]) -> u32
         return count;
     }
     let feature = rows[at + words::FEATURE_COLUMN];
-    let place = binary_search::place_in(features, feature);
-    if binary_search::stands_at(features, place, feature) {
-        return count + 1;
+    let seat = binary_search::seat_in(features, feature);
+    match seat {
+        Seat::At(_) => count + 1,
+        Seat::Before(_) => count,
     }
-    count
 }
 
 // Works out the counts of the rows and the places of their lists.

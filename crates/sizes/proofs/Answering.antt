@@ -19,14 +19,14 @@ use Rattle.laws.proofs.Order.{le-or-lt, eq-or-ne}
 use Rattle.likeness.specs.Sizes.{isSearched}
 use Rattle.likeness.specs.Least.{leastCount}
 use Rattle.words.specs.Words.{nameCount, nameId, nameSize}
-use Rattle.index.specs.Good.{Good, mostNames}
+use Rattle.index.specs.Good.{Good, mostNames, idsIn}
 use Rattle.index.proofs.Laws.{good-names-most}
 use Rattle.candidates.specs.Method.{heldBy, signatures, remains, laterCount}
 use Rattle.candidates.specs.Tables.{kept, remainsAt, remainTable}
 use Rattle.candidates.proofs.Candidates.{held-all}
 use Rattle.candidates.proofs.Counts.{remain-those, remain-value, at-remains, at-absent}
 use Rattle.sizes.specs.Method.{namesOf, listsFor, touchesAt, sharedWith, sizesEnd, touchesOfSize, touchesOf, listed}
-use Rattle.sizes.specs.Tables.{idsOf, Asked, answeredAt, answersTable}
+use Rattle.sizes.specs.Tables.{Asked, answeredAt, answersTable}
 use Rattle.sizes.proofs.Laws.{length-lists}
 use Rattle.sizes.proofs.Size.{length-ids, id-at, remains-size}
 use Rattle.sizes.proofs.Work.{touches-absent}
@@ -103,17 +103,17 @@ module _ (w : List ℕ) (good : Good w) (m p q : ℕ) (f : List ℕ) (a : Asked 
         ∙ (rw searched)
 
     -- all lists are counted at the end
-    count-end : (i : ℕ) → i < nameCount w → heldBy (take (signatures (length ls) t + laterCount ls t) ls) (getD (idsOf w) i 0) ≡ heldBy ls (nameId w i)
+    count-end : (i : ℕ) → i < nameCount w → heldBy (take (signatures (length ls) t + laterCount ls t) ls) (getD (idsIn w) i 0) ≡ heldBy ls (nameId w i)
     count-end i h =
         let n = enough in
-        held-all ls (getD (idsOf w) i 0) (signatures (length ls) t + laterCount ls t) (omega arith) ∙ ap (heldBy ls) (id-at w i h)
+        held-all ls (getD (idsIn w) i 0) (signatures (length ls) t + laterCount ls t) (omega arith) ∙ ap (heldBy ls) (id-at w i h)
 
-    at-place : (i : ℕ) → i < mostNames → (b : Bool) → remainsAt (idsOf w) ls t (laterCount ls t) i ≡ b
-        → cond b (cond b (heldBy (take (signatures (length ls) t + laterCount ls t) ls) (getD (idsOf w) i 0)) 0) (cond (answeredAt w m p q f y i) (sharedWith w f i) 0)
+    at-place : (i : ℕ) → i < mostNames → (b : Bool) → remainsAt (idsIn w) ls t (laterCount ls t) i ≡ b
+        → cond b (cond b (heldBy (take (signatures (length ls) t + laterCount ls t) ls) (getD (idsIn w) i 0)) 0) (cond (answeredAt w m p q f y i) (sharedWith w f i) 0)
         ≡ cond (answeredAt w m p q f (y + 1) i) (sharedWith w f i) 0
     at-place i h true e =
-        let r = at-remains (idsOf w) ls t (laterCount ls t) i e in
-        let k : i < nameCount w = (let u = ltb-true i (length (idsOf w)) (r .0) in let n = length-ids w in omega arith) in
+        let r = at-remains (idsIn w) ls t (laterCount ls t) i e in
+        let k : i < nameCount w = (let u = ltb-true i (length (idsIn w)) (r .0) in let n = length-ids w in omega arith) in
         let v : remains ls t (laterCount ls t) (nameId w i) ≡ true = ap (remains ls t (laterCount ls t)) (sym (id-at w i k)) ∙ r .1 in
         let s : nameSize w i ≡ y = remains-size w good y f a t (laterCount ls t) i k v in
         let now : answeredAt w m p q f (y + 1) i ≡ true = answered-now i k s (listed-remains i s ∙ v) in
@@ -130,7 +130,7 @@ module _ (w : List ℕ) (good : Good w) (m p q : ℕ) (f : List ℕ) (a : Asked 
         not-listed k s =
             listed-remains i s
             ∙ ap (remains ls t (laterCount ls t)) (sym (id-at w i k))
-            ∙ at-absent (idsOf w) ls t (laterCount ls t) i (lt-ltb i (length (idsOf w)) (rw (length-ids w) k)) e
+            ∙ at-absent (idsIn w) ls t (laterCount ls t) i (lt-ltb i (length (idsIn w)) (rw (length-ids w) k)) e
 
         by-place : (nameCount w ≤ i) ⊎ (i < nameCount w) → answeredAt w m p q f y i ≡ answeredAt w m p q f (y + 1) i
         by-place c =
@@ -140,21 +140,21 @@ module _ (w : List ℕ) (good : Good w) (m p q : ℕ) (f : List ℕ) (a : Asked 
             c
 
     -- a searched size puts its answers among those of the sizes below
-    pub answers-searched : kept (remainTable (idsOf w) ls t (laterCount ls t)) (answersTable w m p q f y) ≡ answersTable w m p q f (y + 1)
+    pub answers-searched : kept (remainTable (idsIn w) ls t (laterCount ls t)) (answersTable w m p q f y) ≡ answersTable w m p q f (y + 1)
     unfolding kept answersTable
     answers-searched =
         tabulate-ext
-        (λ (i : ℕ). cond (leb 1 (getD (remainTable (idsOf w) ls t (laterCount ls t)) i 0)) (getD (remainTable (idsOf w) ls t (laterCount ls t)) i 0) (getD (tabulate (λ (j : ℕ). cond (answeredAt w m p q f y j) (sharedWith w f j) 0) mostNames) i 0))
+        (λ (i : ℕ). cond (leb 1 (getD (remainTable (idsIn w) ls t (laterCount ls t)) i 0)) (getD (remainTable (idsIn w) ls t (laterCount ls t)) i 0) (getD (tabulate (λ (j : ℕ). cond (answeredAt w m p q f y j) (sharedWith w f j) 0) mostNames) i 0))
         (λ (i : ℕ). cond (answeredAt w m p q f (y + 1) i) (sharedWith w f i) 0) mostNames
         (λ i h.
         let n = enough in
         let d : laterCount ls t ≤ laterCount ls t = omega arith in
-        let one = remain-those (idsOf w) ls t low enough (laterCount ls t) d i h in
-        let value = remain-value (idsOf w) ls t (laterCount ls t) i h in
+        let one = remain-those (idsIn w) ls t low enough (laterCount ls t) d i h in
+        let value = remain-value (idsIn w) ls t (laterCount ls t) i h in
         let old = getD-tabulate (λ (j : ℕ). cond (answeredAt w m p q f y j) (sharedWith w f j) 0) mostNames i 0 h in
         ap₂ (λ (b : Bool) (c : ℕ). cond b c (getD (tabulate (λ (j : ℕ). cond (answeredAt w m p q f y j) (sharedWith w f j) 0) mostNames) i 0)) one value
-        ∙ ap (λ (c : ℕ). cond (remainsAt (idsOf w) ls t (laterCount ls t) i) (cond (remainsAt (idsOf w) ls t (laterCount ls t) i) (heldBy (take (signatures (length ls) t + laterCount ls t) ls) (getD (idsOf w) i 0)) 0) c) old
-        ∙ at-place i h (remainsAt (idsOf w) ls t (laterCount ls t) i) refl)
+        ∙ ap (λ (c : ℕ). cond (remainsAt (idsIn w) ls t (laterCount ls t) i) (cond (remainsAt (idsIn w) ls t (laterCount ls t) i) (heldBy (take (signatures (length ls) t + laterCount ls t) ls) (getD (idsIn w) i 0)) 0) c) old
+        ∙ at-place i h (remainsAt (idsIn w) ls t (laterCount ls t) i) refl)
 
   -- ---- no size yet, and all sizes
 

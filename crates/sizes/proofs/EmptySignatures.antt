@@ -22,13 +22,13 @@ use Rattle.laws.proofs.Order.{le-or-lt}
 use Rattle.laws.proofs.Sort.{count-sort}
 use Rattle.laws.proofs.Tables.{tabulate-self}
 use Rattle.words.specs.Words.{nameCount, nameId, nameSize}
-use Rattle.index.specs.Good.{mostNames}
+use Rattle.index.specs.Good.{mostNames, idsIn}
 use Rattle.lists.specs.Lists.{listIn}
 use Rattle.candidates.specs.Method.{heldBy, signatures, signaturePostings, remains, laterCount}
 use Rattle.candidates.specs.Tables.{remainsAt, remainTable, kept}
 use Rattle.candidates.proofs.Candidates.{no-holder, unmet}
 use Rattle.sizes.specs.Method.{listsFor, remaining, touchesAt}
-use Rattle.sizes.specs.Tables.{idsOf, smallKey, filledOf, Asked}
+use Rattle.sizes.specs.Tables.{smallKey, filledOf, Asked}
 use Rattle.sizes.proofs.Laws.{length-lists}
 use Rattle.sizes.proofs.Order.{smallKeys, small-ascending, length-small, kth-key}
 use Rattle.sizes.proofs.Size.{asked-query, asked-sorted}
@@ -131,17 +131,17 @@ module _ (w : List ℕ) (y : ℕ) (f : List ℕ) (a : Asked f) (t : ℕ) (some :
 
   -- and has no answer
   pub idle-answers : (before : List ℕ) → length before ≡ mostNames
-      → before ≡ kept (remainTable (idsOf w) (listsFor w y f) t (laterCount (listsFor w y f) t)) before
+      → before ≡ kept (remainTable (idsIn w) (listsFor w y f) t (laterCount (listsFor w y f) t)) before
   unfolding kept remainTable remainsAt
   idle-answers before e =
       let ls : List (List ℕ) = listsFor w y f in
       let d : ℕ = laterCount ls t in
-      let at : ℕ → ℕ = λ (i : ℕ). cond (ltb i (length (idsOf w)) && remains ls t d (getD (idsOf w) i 0)) (heldBy (take (signatures (length ls) t + d) ls) (getD (idsOf w) i 0)) 0 in
+      let at : ℕ → ℕ = λ (i : ℕ). cond (ltb i (length (idsIn w)) && remains ls t d (getD (idsIn w) i 0)) (heldBy (take (signatures (length ls) t + d) ls) (getD (idsIn w) i 0)) 0 in
       sym (tabulate-self before mostNames e)
       ∙ tabulate-ext (λ (i : ℕ). getD before i 0) (λ (i : ℕ). cond (leb 1 (getD (tabulate at mostNames) i 0)) (getD (tabulate at mostNames) i 0) (getD before i 0)) mostNames
       (λ i h.
       let z : getD (tabulate at mostNames) i 0 ≡ 0 =
       getD-tabulate at mostNames i 0 h
-      ∙ ap (λ (b : Bool). cond b (heldBy (take (signatures (length ls) t + d) ls) (getD (idsOf w) i 0)) 0)
-      (and-false-right (ltb i (length (idsOf w))) (remains ls t d (getD (idsOf w) i 0)) (gone d (getD (idsOf w) i 0))) in
+      ∙ ap (λ (b : Bool). cond b (heldBy (take (signatures (length ls) t + d) ls) (getD (idsIn w) i 0)) 0)
+      (and-false-right (ltb i (length (idsIn w))) (remains ls t d (getD (idsIn w) i 0)) (gone d (getD (idsIn w) i 0))) in
       sym (ap (λ (v : ℕ). cond (leb 1 v) v (getD before i 0)) z))

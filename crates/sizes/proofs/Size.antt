@@ -24,7 +24,7 @@ use Rattle.laws.proofs.Order.{le-or-lt}
 use Rattle.laws.proofs.Sort.{ascending-sorted, ascending-distinct, sort-sorted}
 use Rattle.laws.proofs.Images.{ascending-tabulate}
 use Rattle.words.specs.Words.{nameCount, nameId, nameSize}
-use Rattle.index.specs.Good.{Good, mostNames}
+use Rattle.index.specs.Good.{Good, mostNames, idsIn}
 use Rattle.index.proofs.Laws.{good-names-most, good-ids, good-ids-apart}
 use Rattle.lists.specs.Part.{Span, cut}
 use Rattle.lists.specs.Lists.{listIn, spanIn}
@@ -35,26 +35,26 @@ use Rattle.candidates.specs.Tables.{cutAt, cutLists, Readable, remainsAt, later
 use Rattle.candidates.proofs.Candidates.{remains-met}
 use Rattle.candidates.proofs.Counts.{length-cut, getD-cut}
 use Rattle.sizes.specs.Method.{listsFor, remaining, touchesAt}
-use Rattle.sizes.specs.Tables.{startOf, smallKey, idsOf, Asked}
+use Rattle.sizes.specs.Tables.{startOf, smallKey, Asked}
 use Rattle.sizes.proofs.Laws.{Query, length-lists, held-features}
 use Rattle.sizes.proofs.Work.{list-length}
 use Rattle.sizes.proofs.Order.{smallKeys, length-small, kth-key}
 
 -- ---- the ids of the names
 
-pub length-ids : (w : List ℕ) → length (idsOf w) ≡ nameCount w
-unfolding idsOf
+pub length-ids : (w : List ℕ) → length (idsIn w) ≡ nameCount w
+unfolding idsIn
 length-ids w = length-tabulate (nameId w) (nameCount w)
 
-pub id-at : (w : List ℕ) (i : ℕ) → i < nameCount w → getD (idsOf w) i 0 ≡ nameId w i
-unfolding idsOf
+pub id-at : (w : List ℕ) (i : ℕ) → i < nameCount w → getD (idsIn w) i 0 ≡ nameId w i
+unfolding idsIn
 id-at w i h = getD-tabulate (nameId w) (nameCount w) i 0 h
 
-pub ids-few : (w : List ℕ) → Good w → length (idsOf w) ≤ mostNames
+pub ids-few : (w : List ℕ) → Good w → length (idsIn w) ≤ mostNames
 ids-few w good = rw (length-ids w) (good-names-most w good)
 
-pub ids-rise : (w : List ℕ) → Good w → Ascending (idsOf w)
-unfolding idsOf
+pub ids-rise : (w : List ℕ) → Good w → Ascending (idsIn w)
+unfolding idsIn
 ids-rise w good = ascending-tabulate (nameId w) (nameCount w) (λ i h. good-ids w good i (i + 1) (omega arith) h)
 
 -- ---- the features
@@ -114,7 +114,7 @@ module _ (w : List ℕ) (good : Good w) (y : ℕ) (f : List ℕ) (a : Asked f) (
       let q : k < length f = rw (n ∙ l) at h in
       getD-cut w keys starts k (rw l q) ∙ cut-list k q ∙ sym (kth k q .1))
 
-  pub cut-readable : Readable w (idsOf w) keys starts
+  pub cut-readable : Readable w (idsIn w) keys starts
   cut-readable =
       record {
         place = λ k h. let q = kth k (rw length-keys at h) .0 in omega arith;
@@ -179,12 +179,12 @@ module _ (w : List ℕ) (good : Good w) (y : ℕ) (f : List ℕ) (a : Asked f) (
       ap (nameSize w) (sym s) ∙ n .3
 
   -- so those of the size that remain are all that remain
-  pub remaining-at : (d : ℕ) → remaining w y (listsFor w y f) t d ≡ countBelow mostNames (remainsAt (idsOf w) (listsFor w y f) t d)
+  pub remaining-at : (d : ℕ) → remaining w y (listsFor w y f) t d ≡ countBelow mostNames (remainsAt (idsIn w) (listsFor w y f) t d)
   unfolding remaining remainsAt
   remaining-at d =
       let m = good-names-most w good in
       let e : nameCount w + (mostNames - nameCount w) ≡ mostNames = omega arith in
-      let u : ℕ → Bool = λ (i : ℕ). remains (listsFor w y f) t d (getD (idsOf w) i 0) in
+      let u : ℕ → Bool = λ (i : ℕ). remains (listsFor w y f) t d (getD (idsIn w) i 0) in
       sum-below-ext (nameCount w) (λ (i : ℕ). cond (eqb (nameSize w i) y && remains (listsFor w y f) t d (nameId w i)) 1 0) (λ (i : ℕ). cond (u i) 1 0)
       (λ i h.
       ap (λ (b : Bool). cond b 1 0)
@@ -199,8 +199,8 @@ module _ (w : List ℕ) (good : Good w) (y : ℕ) (f : List ℕ) (a : Asked f) (
   -- the touches of the size, as the code counts them
   pub touches-at : touchesAt w y (listsFor w y f) t
       ≡ postingsOf (listsFor w y f) (signatures (length (listsFor w y f)) t)
-      + laterTouches (idsOf w) (listsFor w y f) t (laterCount (listsFor w y f) t)
+      + laterTouches (idsIn w) (listsFor w y f) t (laterCount (listsFor w y f) t)
   unfolding touchesAt signaturePostings laterTouches
   touches-at =
       ap (λ (n : ℕ). postingsOf (listsFor w y f) (signatures (length (listsFor w y f)) t) + n)
-      (sum-below-ext (laterCount (listsFor w y f) t) (remaining w y (listsFor w y f) t) (λ (e : ℕ). countBelow mostNames (remainsAt (idsOf w) (listsFor w y f) t e)) (λ d h. remaining-at d))
+      (sum-below-ext (laterCount (listsFor w y f) t) (remaining w y (listsFor w y f) t) (λ (e : ℕ). countBelow mostNames (remainsAt (idsIn w) (listsFor w y f) t e)) (λ d h. remaining-at d))

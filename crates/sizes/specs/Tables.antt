@@ -11,8 +11,8 @@ use Rattle.laws.specs.Lists.{Ascending, tabulate}
 use Rattle.laws.specs.Below.{sumBelow, countBelow}
 use Rattle.laws.specs.Each.{Each}
 use Rattle.names.specs.Features.{mostFeatures}
-use Rattle.words.specs.Words.{nameCount, nameId, nameSize, featureSpan}
-use Rattle.index.specs.Good.{mostNames}
+use Rattle.words.specs.Words.{nameCount, nameSize, featureSpan}
+use Rattle.index.specs.Good.{mostNames, idsIn}
 use Rattle.lists.specs.Lists.{spanIn, listIn}
 use Rattle.candidates.specs.Method.{laterCount}
 use Rattle.candidates.specs.Spending.{Spending}
@@ -20,10 +20,6 @@ use Rattle.candidates.specs.Tables.{noCounts, kept, remainTable}
 use Rattle.sizes.specs.Method.{namesOf, listsFor, touchesAt, sharedWith, sizesEnd, touchesOfSize, touchesOf, listed}
 
 -- ---- the names
-
--- the ids of the names, in order
-unfoldable pub idsOf : List ℕ → List ℕ
-idsOf w = tabulate (nameId w) (nameCount w)
 
 -- 1 where a name has the size, 0 where none has
 unfoldable pub presentAt : List ℕ → ℕ → ℕ
@@ -57,7 +53,7 @@ pub record Lent (features starts keys spare counts met : List ℕ) : Type 0 wher
 -- changed; otherwise the counts are 0 again
 pub record Sized (w : List ℕ) (y : ℕ) (features : List ℕ) (t budget : ℕ) (before after counts : List ℕ) (past : Bool) (touches : ℕ) : Type 0 where
   pub spent : Spending (touchesAt w y (listsFor w y features) t) budget past touches
-  pub answers : past ≡ false → after ≡ kept (remainTable (idsOf w) (listsFor w y features) t (laterCount (listsFor w y features) t)) before
+  pub answers : past ≡ false → after ≡ kept (remainTable (idsIn w) (listsFor w y features) t (laterCount (listsFor w y features) t)) before
   pub cleared : past ≡ false → counts ≡ noCounts
   pub none : past ≡ true → (touches ≡ 0) × (after ≡ before)
 

@@ -10,9 +10,9 @@ ghost use Rattle.likeness.specs.Measures.{goodMeasure};
 ghost use Rattle.laws.specs.Lists.{tabulate};
 ghost use Rattle.laws.specs.Sort.{sortOf};
 ghost use Rattle.names.specs.Features.{mostFeatures};
-ghost use Rattle.index.specs.Good.{Good, mostNames};
+ghost use Rattle.index.specs.Good.{Good, mostNames, idsIn};
 ghost use Rattle.sizes.specs.Method.{sizesEnd};
-ghost use Rattle.sizes.specs.Tables.{presentAt, startOf, smallKey, filledOf, idsOf, Asked, Lent, Sized, answersTable, Stepped, Covered};
+ghost use Rattle.sizes.specs.Tables.{presentAt, startOf, smallKey, filledOf, Asked, Lent, Sized, answersTable, Stepped, Covered};
 use candidates::Spent;
 use names::FeatureSet;
 
@@ -105,7 +105,7 @@ fn one_size(
     met: &mut [usize],
     answers: &mut [u32],
 ) -> Spent
-    requires { ⌜ Good (now words) × (now ids ≡ idsOf (now words)) × Asked (now features) × (1 ≤ least) × (least ≤ length (now features)) × (length (now answers) ≡ mostNames) ⌝ }
+    requires { ⌜ Good (now words) × (now ids ≡ idsIn (now words)) × Asked (now features) × (1 ≤ least) × (least ≤ length (now features)) × (length (now answers) ≡ mostNames) ⌝ }
     requires { ⌜ Lent (now features) (now starts) (now keys) (now spare) (now counts) (now met) ⌝ }
     ensures { λ r. ⌜ Sized (now (words .entry)) size (now (features .entry)) least budget (now (answers .entry)) (now (answers .exit)) (now (counts .exit)) (r .past) (r .touches) ⌝ }
 {
@@ -148,7 +148,7 @@ fn size_step(
     met: &mut [usize],
     answers: &mut [u32],
 ) -> Spent
-    requires { ⌜ Good (now words) × (now ids ≡ idsOf (now words)) × Asked (now features) × (goodMeasure measure ≡ true) × (y < sizesEnd) × (present ≡ presentAt (now words) y) × (now answers ≡ answersTable (now words) measure p q (now features) y) ⌝ }
+    requires { ⌜ Good (now words) × (now ids ≡ idsIn (now words)) × Asked (now features) × (goodMeasure measure ≡ true) × (y < sizesEnd) × (present ≡ presentAt (now words) y) × (now answers ≡ answersTable (now words) measure p q (now features) y) ⌝ }
     requires { ⌜ Lent (now features) (now starts) (now keys) (now spare) (now counts) (now met) ⌝ }
     ensures { λ r. ⌜ Stepped (now (words .entry)) measure p q (now (features .entry)) y budget (now (answers .exit)) (now (counts .exit)) (r .past) (r .touches) ⌝ }
 {
@@ -199,7 +199,7 @@ fn each_size(
     met: &mut [usize],
     answers: &mut [u32],
 ) -> Spent
-    requires { ⌜ Good (now words) × (now ids ≡ idsOf (now words)) × Asked (now features) × (goodMeasure measure ≡ true) × (now answers ≡ answersTable (now words) measure p q (now features) 0) ⌝ }
+    requires { ⌜ Good (now words) × (now ids ≡ idsIn (now words)) × Asked (now features) × (goodMeasure measure ≡ true) × (now answers ≡ answersTable (now words) measure p q (now features) 0) ⌝ }
     requires { ⌜ Lent (now features) (now starts) (now keys) (now spare) (now counts) (now met) ⌝ }
     ensures { λ r. ⌜ Covered (now (words .entry)) measure p q (now (features .entry)) allowance (now (answers .exit)) (r .past) (r .touches) ⌝ }
 {
@@ -250,7 +250,7 @@ pub fn all_sizes(
     allowance: usize,
     answers: &mut [u32],
 ) -> Spent
-    requires { ⌜ Good (now words) × (now ids ≡ idsOf (now words)) × Asked (now features) × (goodMeasure measure ≡ true) × (now answers ≡ answersTable (now words) measure p q (now features) 0) ⌝ }
+    requires { ⌜ Good (now words) × (now ids ≡ idsIn (now words)) × Asked (now features) × (goodMeasure measure ≡ true) × (now answers ≡ answersTable (now words) measure p q (now features) 0) ⌝ }
     ensures { λ r. ⌜ Covered (now (words .entry)) measure p q (now (features .entry)) allowance (now (answers .exit)) (r .past) (r .touches) ⌝ }
 {
     let x = features.len();

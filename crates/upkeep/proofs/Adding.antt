@@ -14,16 +14,13 @@ use lib.Dec.{ltb}
 use Rattle.laws.specs.Each.{Each}
 use Rattle.laws.specs.Lists.{Ascending}
 use Rattle.laws.specs.Sort.{Sorted, sortOf}
-use Rattle.laws.proofs.Lists.{length-tabulate}
-use Rattle.laws.proofs.Below.{count-below-most}
-use Rattle.laws.proofs.Images.{count-tabulate}
+use Rattle.laws.proofs.Lists.{length-tabulate, count-le}
 use Rattle.laws.proofs.Members.{each-at, each-members}
 use Rattle.laws.proofs.Sort.{ascending-sort, ascending-sorted, sort-sorted}
 use Rattle.names.specs.Names.{judgeOf}
 use Rattle.names.specs.Features.{characters, featuresOf}
 use Rattle.words.specs.Words.{nameCount, rowCount, postingCount, nameWord, nameId, nameStart, rowWidth, postingsStart, total, featureSpan}
-use Rattle.index.specs.Good.{mostNames, mostPostings, largestId, Good}
-use Rattle.index.specs.Check.{namePlace}
+use Rattle.index.specs.Good.{mostNames, mostPostings, largestId, idsIn, Good}
 use Rattle.index.proofs.Laws.{good-names-most, good-postings-most, good-within}
 use Rattle.index_writer.specs.Built.{wordOf, Row, listsOf, rowWords, wordsFrom, RowsFit}
 use Rattle.index_writer.specs.Contents.{namesIn, rowIn, allRowsIn, entriesIn, Narrow}
@@ -35,8 +32,7 @@ use Rattle.index_writer.proofs.Unique.{good-fit, good-names, good-rows, good-wr
 use Rattle.splicing.specs.Splice.{putAt, putIn}
 use Rattle.splicing.proofs.Laws.{length-put-at, length-put-in}
 use Rattle.seats.proofs.Laws.{rows-few, lists-all}
-use Rattle.changes.specs.Places.{placeOf}
-use Rattle.changes.specs.Names.{idsOf}
+use Rattle.binary_search.specs.Seats.{placeOf}
 use Rattle.changes.specs.Rows.{withPostings}
 use Rattle.changes.specs.Cuts.{RowsShort, ofFeatures, rowCuts, newRows, postingCuts, addCuts, settled}
 use Rattle.changes.proofs.Added.{index-added}
@@ -52,7 +48,7 @@ use Rattle.upkeep.proofs.Judging.{add-rest, added-kept, sorted-fit, sor
 
 -- the name words and the rows of the index then
 abbrev namesAfter : List ℕ → ℕ → List ℕ → List ℕ
-namesAfter w id fs = putAt (namePlace w id) (wordOf (newEntry id fs)) (namesIn w)
+namesAfter w id fs = putAt (placeOf id (idsIn w)) (wordOf (newEntry id fs)) (namesIn w)
 
 abbrev rowsAfter : List ℕ → ℕ → List ℕ → List Row
 rowsAfter w id fs = withPostings (length fs) fs id (allRowsIn w)
@@ -93,24 +89,28 @@ module _ {w : List ℕ} {id place : ℕ} {fs : List ℕ} (a : Addable w id place
       let p = good-postings-most w (a .good) in
       omega arith
 
-  within : namePlace w id ≤ length (namesIn w)
-  unfolding namePlace
-  within = let n = length-names w in let m = count-below-most (nameCount w) (λ (i : ℕ). ltb (nameId w i) id) in omega arith
+  within : placeOf id (idsIn w) ≤ length (namesIn w)
+  unfolding idsIn
+  within =
+      let n = length-names w in
+      let k = length-tabulate (nameId w) (nameCount w) in
+      let m = count-le (λ (x : ℕ). ltb x id) (idsIn w) in
+      omega arith
 
   pub place-small : place ≤ mostNames
   place-small = let p = within in let e = a .place in let n = length-names w in let f = a .few in omega arith
 
   -- ---- the places and the words in the tables
 
-  cuts-for : cutsFor w id fs ≡ addCuts (length (namesIn w)) (namePlace w id) (length fs) id (allRowsIn w) fs
+  cuts-for : cutsFor w id fs ≡ addCuts (length (namesIn w)) (placeOf id (idsIn w)) (length fs) id (allRowsIn w) fs
   unfolding cutsFor
-  cuts-for = ap (λ (n : ℕ). addCuts n (namePlace w id) (length fs) id (allRowsIn w) fs) (sym (length-names w))
+  cuts-for = ap (λ (n : ℕ). addCuts n (placeOf id (idsIn w)) (length fs) id (allRowsIn w) fs) (sym (length-names w))
 
   -- one place for the name, those of the new rows, and one for each feature
   pub many-cuts : length (cutsFor w id fs) ≡ 1 + length (rowCuts (length fs) (allRowsIn w) fs) + length fs
   many-cuts =
       let c = ap length cuts-for in
-      let n = length-cuts (namesIn w) (namePlace w id) (wordOf (newEntry id fs)) (length fs) id (allRowsIn w) fs within fit (a .rise) in
+      let n = length-cuts (namesIn w) (placeOf id (idsIn w)) (wordOf (newEntry id fs)) (length fs) id (allRowsIn w) fs within fit (a .rise) in
       omega arith
 
   pub cuts-room : length (cutsFor w id fs) ≤ mostMoved
@@ -180,17 +180,17 @@ module _ {w : List ℕ} {id place : ℕ} {fs : List ℕ} (a : Addable w id place
   length-written = ap length (sym written) ∙ length-take-le (total w) w (good-within w (a .good))
 
   cuts-sorted : Sorted (cutsFor w id fs)
-  cuts-sorted = rw cuts-for (add-cuts-sorted (namesIn w) (namePlace w id) (wordOf (newEntry id fs)) (length fs) id (allRowsIn w) fs within fit (a .rise))
+  cuts-sorted = rw cuts-for (add-cuts-sorted (namesIn w) (placeOf id (idsIn w)) (wordOf (newEntry id fs)) (length fs) id (allRowsIn w) fs within fit (a .rise))
 
   cuts-within : Each (λ (p : ℕ). p ≤ total w) (cutsFor w id fs)
   cuts-within =
       rw (cuts-for, ← length-written)
-      (add-cuts-most (namesIn w) (namePlace w id) (wordOf (newEntry id fs)) (length fs) id (allRowsIn w) fs within fit (a .rise))
+      (add-cuts-most (namesIn w) (placeOf id (idsIn w)) (wordOf (newEntry id fs)) (length fs) id (allRowsIn w) fs within fit (a .rise))
 
   cuts-words : length (cutsFor w id fs) ≡ length (wordsFor w id fs)
   unfolding wordsFor
   cuts-words =
-      ap length cuts-for ∙ length-add-cuts (namesIn w) (namePlace w id) (wordOf (newEntry id fs)) (length fs) id (allRowsIn w) fs within fit (a .rise)
+      ap length cuts-for ∙ length-add-cuts (namesIn w) (placeOf id (idsIn w)) (wordOf (newEntry id fs)) (length fs) id (allRowsIn w) fs within fit (a .rise)
 
   module _ (at values : List ℕ) (end : ℕ) (places : at ≡ cutsFor w id fs) (words : values ≡ wordsFor w id fs) (total-is : end ≡ total w) where
     pub put-may : total w + length (cutsFor w id fs) ≤ length w → Sorted at × Each (λ (p : ℕ). p ≤ end) at × (length at ≡ length values) × (end + length at ≤ length w)
@@ -204,15 +204,11 @@ module _ {w : List ℕ} {id place : ℕ} {fs : List ℕ} (a : Addable w id place
 
   -- ---- the index that results
 
-  place-of : namePlace w id ≡ placeOf id (idsOf (entriesIn w))
-  unfolding namePlace
-  place-of = sym (count-tabulate (λ (x : ℕ). ltb x id) (nameId w) (nameCount w)) ∙ ap (placeOf id) (sym (ids-in w))
-
   index-for : indexFor w id fs ≡ wordsFrom (namesAfter w id fs) (rowsAfter w id fs)
   index-for =
       index-added (newEntry id fs) (entriesIn w) (good-fit w (a .good) narrow) (a .fit) (a .unused)
       ∙ ap₂ wordsFrom
-      (ap₂ (λ (k : ℕ) (l : List ℕ). putAt k (wordOf (newEntry id fs)) l) (sym place-of) (sym (good-names w (a .good) narrow)))
+      (ap₂ (λ (k : ℕ) (l : List ℕ). putAt k (wordOf (newEntry id fs)) l) (ap (placeOf id) (ids-in w)) (sym (good-names w (a .good) narrow)))
       (ap₂ (λ (l : List ℕ) (rows : List Row). withPostings (length fs) l id rows) (sort-sorted fs (ascending-sorted fs (a .rise))) (sym (good-rows w (a .good) narrow)))
 
   -- as many words more as places
@@ -221,7 +217,7 @@ module _ {w : List ℕ} {id place : ℕ} {fs : List ℕ} (a : Addable w id place
       let c = ap length cuts-for in
       let l = length-written in
       let i = ap length index-for in
-      let e = length-words-added (namesIn w) (namePlace w id) (wordOf (newEntry id fs)) (length fs) id (allRowsIn w) fs within fit (a .rise) low in
+      let e = length-words-added (namesIn w) (placeOf id (idsIn w)) (wordOf (newEntry id fs)) (length fs) id (allRowsIn w) fs within fit (a .rise) low in
       omega arith
 
   -- so it fits exactly if they do
@@ -232,7 +228,7 @@ module _ {w : List ℕ} {id place : ℕ} {fs : List ℕ} (a : Addable w id place
   number-over h = let l = length-index in ap (λ (b : Bool). cond b 0 8) (sym (lt-leb (length (indexFor w id fs)) (length w) (omega arith)))
 
   names-more : length (namesAfter w id fs) ≡ nameCount w + 1
-  names-more = let e = length-put-at (namePlace w id) (wordOf (newEntry id fs)) (namesIn w) in let n = length-names w in omega arith
+  names-more = let e = length-put-at (placeOf id (idsIn w)) (wordOf (newEntry id fs)) (namesIn w) in let n = length-names w in omega arith
 
   rows-more : length (rowsAfter w id fs) ≡ rowCount w + (length (cutsFor w id fs) - 1 - length fs) / rowWidth
   rows-more =
@@ -264,7 +260,7 @@ module _ {w : List ℕ} {id place : ℕ} {fs : List ℕ} (a : Addable w id place
         omega arith
 
     moved : movedFor w id fs
-        ≡ putIn (addCuts (length (namesIn w)) (namePlace w id) (length fs) id (allRowsIn w) fs) (wordsFor w id fs) (wordsFrom (namesIn w) (allRowsIn w))
+        ≡ putIn (addCuts (length (namesIn w)) (placeOf id (idsIn w)) (length fs) id (allRowsIn w) fs) (wordsFor w id fs) (wordsFrom (namesIn w) (allRowsIn w))
         ++ drop (total w + length (cutsFor w id fs)) w
     unfolding movedFor
     moved = ap₂ (λ (c l : List ℕ). putIn c (wordsFor w id fs) l ++ drop (total w + length (cutsFor w id fs)) w) cuts-for written
@@ -275,7 +271,7 @@ module _ {w : List ℕ} {id place : ℕ} {fs : List ℕ} (a : Addable w id place
     rows-moved =
         ap (λ (l : List ℕ). take (rowWidth * length (rowsAfter w id fs)) (drop (nameStart (length (namesAfter w id fs))) l))
         (moved
-        ∙ ap (λ (l : List ℕ). l ++ rest) (words-put-in (namesIn w) (namePlace w id) (wordOf (newEntry id fs)) (length fs) id (allRowsIn w) fs within fit (a .rise))
+        ∙ ap (λ (l : List ℕ). l ++ rest) (words-put-in (namesIn w) (placeOf id (idsIn w)) (wordOf (newEntry id fs)) (length fs) id (allRowsIn w) fs within fit (a .rise))
         ∙ ap (λ (l : List ℕ). length (namesIn w) ∷ length (allRowsIn w) ∷ length (listsOf (allRowsIn w)) ∷ l) (append-assoc (namesAfter w id fs) (rowsPut ++ lists) rest))
         ∙ ap (take (rowWidth * length (rowsAfter w id fs)))
         (drop-at front ((rowsPut ++ lists) ++ rest) (nameStart (length (namesAfter w id fs))) (omega arith) ∙ append-assoc rowsPut lists rest)
@@ -334,7 +330,7 @@ module _ {w : List ℕ} {id place : ℕ} {fs : List ℕ} (a : Addable w id place
           ∙ ap₂ (λ (k : ℕ) (l : List ℕ). padTo k l) (ap length words ∙ length-moved)
           (ap (take (nameStart n + rowWidth * d + p))
           ((λ i. settled (n-is i) (d-is i) (p-is i) (length fs) fs ((words ∙ moved) i))
-          ∙ words-added (namesIn w) (namePlace w id) (wordOf (newEntry id fs)) (length fs) id (allRowsIn w) fs within fit (a .rise) low (drop (total w + length (cutsFor w id fs)) w))
+          ∙ words-added (namesIn w) (placeOf id (idsIn w)) (wordOf (newEntry id fs)) (length fs) id (allRowsIn w) fs within fit (a .rise) low (drop (total w + length (cutsFor w id fs)) w))
           ∙ take-at (wordsFrom (namesAfter w id fs) (rowsAfter w id fs)) (drop (total w + length (cutsFor w id fs)) w) (nameStart n + rowWidth * d + p) (sym (all-is ∙ ap length index-for))
           ∙ sym index-for)
 
@@ -345,7 +341,7 @@ module _ (w : List ℕ) (id : ℕ) (name : List ℕ) where
   add-refused number e n = (sym e, sym (added-kept w id name (λ z. n (sym e ∙ z))))
 
   module _ (good : Good w) (named : judgeOf name ≡ 0) (unused : isLive w id ≡ false) (few : nameCount w < mostNames) (fs : List ℕ) (sorted : fs ≡ sortOf (featuresOf name)) where
-    pub addable : (place : ℕ) → place ≡ namePlace w id → ((j : ℕ) → getD name j 0 < characters) → id ≤ largestId → Addable w id place fs
+    pub addable : (place : ℕ) → place ≡ placeOf id (idsIn w) → ((j : ℕ) → getD name j 0 < characters) → id ≤ largestId → Addable w id place fs
     addable place at bytes low =
         let fit = name-fit name id named bytes low in
         record {

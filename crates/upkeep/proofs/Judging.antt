@@ -21,7 +21,7 @@ use Rattle.index.specs.Good.{mostNames, goodOf, Good}
 use Rattle.index_writer.specs.Built.{Entry, wordOf, tripleOf, triplesOf, allTriples, runsOf, wordsFrom, rowsOf, wordsOf, EntryFit}
 use Rattle.index_writer.specs.Written.{fitsIn, padTo}
 use Rattle.index_writer.proofs.Built.{triples-sort}
-use Rattle.changes.specs.Places.{placeOf}
+use Rattle.binary_search.specs.Seats.{placeOf}
 use Rattle.changes.specs.Names.{idsOf, withEntry}
 use Rattle.changes.proofs.Names.{words-with, triples-with}
 use Rattle.upkeep.specs.Upkeep.{isLive, changedIf, indexWith, addedOf, wordsAdded, indexWithout, withdrawnOf, wordsWithdrawn}

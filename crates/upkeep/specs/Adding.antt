@@ -8,8 +8,8 @@ use lib.ListN.{length}
 use Rattle.laws.specs.Lists.{Ascending}
 use Rattle.names.specs.Features.{mostFeatures}
 use Rattle.words.specs.Words.{nameWidth, rowWidth, nameCount}
-use Rattle.index.specs.Good.{mostNames, Good}
-use Rattle.index.specs.Check.{namePlace}
+use Rattle.binary_search.specs.Seats.{placeOf}
+use Rattle.index.specs.Good.{mostNames, idsIn, Good}
 use Rattle.index_writer.specs.Built.{Entry, wordOf, wordsOf, EntryFit}
 use Rattle.index_writer.specs.Contents.{allRowsIn, entriesIn}
 use Rattle.changes.specs.Names.{withEntry}
@@ -26,7 +26,7 @@ newEntry id fs = record { id = id; features = fs }
 -- the words are a good index that has room for a name more, the id is not live, its place is known, and its features ascend
 pub record Addable (w : List ℕ) (id at : ℕ) (fs : List ℕ) : Type 0 where
   pub good : Good w
-  pub place : at ≡ namePlace w id
+  pub place : at ≡ placeOf id (idsIn w)
   pub unused : isLive w id ≡ false
   pub few : nameCount w < mostNames
   pub rise : Ascending fs
@@ -38,7 +38,7 @@ indexFor w id fs = wordsOf (withEntry (newEntry id fs) (entriesIn w))
 
 -- where its words go, and which they are
 unfoldable pub cutsFor : List ℕ → ℕ → List ℕ → List ℕ
-cutsFor w id fs = addCuts (nameCount w) (namePlace w id) (length fs) id (allRowsIn w) fs
+cutsFor w id fs = addCuts (nameCount w) (placeOf id (idsIn w)) (length fs) id (allRowsIn w) fs
 
 unfoldable pub wordsFor : List ℕ → ℕ → List ℕ → List ℕ
 wordsFor w id fs = addWords (wordOf (newEntry id fs)) (length fs) id (allRowsIn w) fs

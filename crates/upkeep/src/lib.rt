@@ -1,7 +1,7 @@
 // Pools open and close: a name is added to a good index, or withdrawn from it, in place. The rule: docs/RULE.md, "Adding and withdrawing a name"; the
 // definitions: specs/. Where words go or stand is worked out before any is moved, so that a refusal changes none; then all move in one pass.
 ghost use mathlib.Core.Path.{_≡_};
-ghost use mathlib.Core.Bool.{false, cond};
+ghost use mathlib.Core.Bool.{cond};
 ghost use mathlib.Core.List.{_++_, map};
 ghost use Prim.Native.Nat.{ℕ, _+_, _*_, _^_, _≤_, _<_};
 ghost use lib.ListN.{length, getD, take, replicate};
@@ -10,27 +10,16 @@ ghost use Rattle.names.specs.Names.{judgeOf};
 ghost use Rattle.names.specs.Features.{featuresOf, mostFeatures};
 ghost use Rattle.words.specs.Words.{nameCount, nameId};
 ghost use Rattle.index.specs.Good.{Good};
-ghost use Rattle.index.specs.Check.{namePlace};
 ghost use Rattle.index_writer.specs.Written.{fitsIn, padTo};
-ghost use Rattle.upkeep.specs.Upkeep.{isLive, changedIf, addedOf, wordsAdded, indexWithout, withdrawnOf, wordsWithdrawn};
+ghost use Rattle.upkeep.specs.Upkeep.{changedIf, addedOf, wordsAdded, indexWithout, withdrawnOf, wordsWithdrawn};
 ghost use Rattle.upkeep.specs.Adding.{mostMoved, Addable, indexFor, cutsFor, wordsFor};
+use binary_search::Seat;
 
 // The most words that a change puts in or takes out: a name's, and for each feature those of a row and one posting.
 pub const MOST_MOVED: usize = words::NAME_WIDTH
     + (words::ROW_WIDTH + 1) * names::FeatureSet::CAPACITY;
 
 // ---- parts
-
-// Whether the id is that of the name at its place, how many ids are below it.
-fn is_live(words: &[u32], place: usize, id: u32) -> bool
-    requires { ⌜ Good (now words) × (place ≡ namePlace (now words) id) ⌝ }
-    ensures { λ r. ⌜ r ≡ isLive (now (words .entry)) id ⌝ }
-{
-    if place < words::name_count(words) {
-        return words::name_id(words, place) == id;
-    }
-    false
-}
 
 // Copies features, which fit 32 bits.
 fn narrow(items: &[u64], out: &mut [u32])
@@ -147,10 +136,10 @@ pub fn add(words: &mut [u32], id: u16, name: &[u8]) -> u8
         return number;
     }
     let wide = id as u32;
-    let place = index::name_place(words, wide);
-    if is_live(words, place, wide) {
+    let seat = index::name_seat(words, wide);
+    let Seat::Before(place) = seat else {
         return 9;
-    }
+    };
     if words::name_count(words) == index::MOST_NAMES {
         return 10;
     }
@@ -201,10 +190,10 @@ pub fn withdraw(words: &mut [u32], id: u16) -> u8
         return 6;
     }
     let wide = id as u32;
-    let place = index::name_place(words, wide);
-    if !is_live(words, place, wide) {
+    let seat = index::name_seat(words, wide);
+    let Seat::At(place) = seat else {
         return 13;
-    }
+    };
     let mut at = [0u32; MOST_MOVED];
     let mut postings = [0u32; names::FeatureSet::CAPACITY];
     withdraw_with(words, wide, place, &mut at, &mut postings);

@@ -25,7 +25,8 @@ use Rattle.index_writer.specs.Plain.{Plain}
 use Rattle.index_writer.proofs.Plain.{good-plain, plain-length}
 use Rattle.index_writer.proofs.Read.{words-in, read-place}
 use Rattle.index_writer.proofs.Holders.{rows-fit}
-use Rattle.changes.specs.Places.{placeOf, othersOf}
+use Rattle.binary_search.specs.Seats.{placeOf}
+use Rattle.changes.specs.Others.{othersOf}
 use Rattle.changes.specs.Cuts.{thinRow, emptyCuts, idCuts, thinnedTo}
 use Rattle.changes.proofs.Lists.{others-none}
 use Rattle.changes.proofs.Taken.{length-others}

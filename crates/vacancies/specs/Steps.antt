@@ -7,7 +7,7 @@ use lib.ListN.{length, set}
 use lib.Dec.{eqb}
 use Rattle.laws.specs.Lists.{member, Ascending}
 use Rattle.words.specs.Words.{rowWidth, lengthColumn, rowStart, rowPlace, rowLength, listStart, listAt}
-use Rattle.changes.specs.Places.{placeOf}
+use Rattle.binary_search.specs.Seats.{placeOf}
 
 -- row r's words and its list lie within the words, their places fit 32 bits, and the list ascends
 pub record RowLies (w : List ℕ) (r : ℕ) : Type 0 where

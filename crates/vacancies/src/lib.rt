@@ -1,36 +1,20 @@
 // The words that go with a name of a good index: its id in the lists, and the rows that then list nobody. What is right stands in the crate changes,
 // specs/Cuts.antt; of one row, in specs/Steps.antt here.
 ghost use mathlib.Core.Path.{_≡_};
-ghost use mathlib.Core.Bool.{true, cond};
+ghost use mathlib.Core.Bool.{true};
 ghost use mathlib.Core.List.{[], _∷_, _++_, map};
 ghost use Prim.Native.Nat.{ℕ, _+_, _*_, _^_, _≤_, _<_};
 ghost use lib.ListN.{length, take};
 ghost use lib.Seq.{sets};
 ghost use Rattle.names.specs.Features.{mostFeatures};
-ghost use Rattle.words.specs.Words.{nameCount, rowCount, nameId, nameSize, rowWidth, rowsStart, rowSize, rowLength, listAt};
+ghost use Rattle.words.specs.Words.{nameCount, rowCount, nameId, nameSize, rowWidth, rowsStart, rowSize};
 ghost use Rattle.index.specs.Good.{Good};
 ghost use Rattle.index_writer.specs.Contents.{allRowsIn};
-ghost use Rattle.changes.specs.Places.{placeOf};
 ghost use Rattle.changes.specs.Cuts.{thinRow, emptyCuts, idCuts, thinnedTo};
 ghost use Rattle.vacancies.specs.Steps.{RowLies, holdsId, thinAt, idAt, emptyAt};
+use binary_search::Seat;
 
 // ---- one row
-
-// Where the id stands in row r's list; the list's length where it does not.
-fn id_place(words: &[u32], r: usize, id: u32) -> usize
-    requires { ⌜ RowLies (now words) r ⌝ }
-    ensures { λ v. ⌜ v ≡ cond (holdsId (now (words .entry)) r id) (placeOf id (listAt (now (words .entry)) r)) (rowLength (now (words .entry)) r) ⌝ }
-{
-    let start = words::postings_start(words) + words::row_place(words, r);
-    let count = words::row_length(words, r);
-    let end = start + count;
-    let list = &words[start..end];
-    let at = binary_search::place_in(list, id);
-    if binary_search::stands_at(list, at, id) {
-        return at;
-    }
-    count
-}
 
 // Puts the places of a row's words behind n others.
 fn put_places(place: usize, at: &mut [u32], n: usize)
@@ -70,14 +54,14 @@ fn note_row(
             postings: k,
         };
     }
-    let count = words::row_length(words, r);
-    let place = id_place(words, r, id);
-    if place == count {
+    let seat = lists::id_seat(words, r, id);
+    let Seat::At(place) = seat else {
         return Noted {
             rows: n,
             postings: k,
         };
-    }
+    };
+    let count = words::row_length(words, r);
     postings[k] = (words::row_place(words, r) + place) as u32;
     let row = words::row_start(words, r);
     words[row + words::LENGTH_COLUMN] = (count - 1) as u32;

@@ -4,12 +4,15 @@ use mathlib.Core.Logic.{⊎-elim}
 use mathlib.Core.List.{List}
 use Prim.Native.Nat.{ℕ, _+_, _≤_, _<_, _-_}
 use native.Mathlib.Omega.{arith}
+use borrow.Author.Needs.{needs}
 use lib.ListN.{length, getD, take, set, length-set}
 use lib.Seq.{take-all}
 use Rattle.laws.proofs.Members.{member-at}
 use Rattle.laws.proofs.Sort.{ascending-distinct}
 use Rattle.index.specs.Good.{mostNames}
+use Rattle.binary_search.specs.Seats.{seatPlace}
 use Rattle.binary_search.proofs.Search.{place-met}
+use Rattle.binary_search.proofs.Seats.{seat-place}
 use Rattle.candidates.specs.Tables.{MetBy, tallied}
 use Rattle.candidates.proofs.Tables.{tallied-nil, tallied-step, tallied-bound, met-room, met-push, met-keep}
 use Rattle.candidates.proofs.Testing.{distinct-fresh}
@@ -30,16 +33,17 @@ known c =
     b .pre .0 .3 (getD (b .args .list .now) (c .before .loop .k) 0) (member-at (b .args .list .now) (c .before .loop .k) (c .loop-test .taken))
 
 -- where it is found
-placed : (c : tie.After-place-near Inv-loop μ-loop) → c .place-near .result ≡ known (c .before .before) .0
+placed : (c : tie.After-place-of Inv-loop μ-loop) → c .place-of .result ≡ known (c .before .before .before) .0
 placed c =
-    let b = c .before .before .before .before .before .before .before .before in
-    let w = known (c .before .before) in
-    c .place-near .ensures ∙ sym (place-met (b .args .ids .now) (getD (b .args .list .now) (c .before .before .before .loop .k) 0) (w .0) (b .pre .0 .1) (w .1) (w .2))
+    let b = c .before .before .before .before .before .before .before .before .before in
+    let w = known (c .before .before .before) in
+    c .place-of .ensures ∙ ap seatPlace (c .before .seat-near .ensures) ∙ seat-place (b .args .ids .now) (getD (b .args .list .now) (c .before .before .before .before .loop .k) 0)
+    ∙ sym (place-met (b .args .ids .now) (getD (b .args .list .now) (c .before .before .before .before .loop .k) 0) (w .0) (b .pre .0 .1) (w .1) (w .2))
 
-within : (c : tie.After-place-near Inv-loop μ-loop) → (c .place-near .result < mostNames) × (c .place-near .result < length (c .before .before .before .before .before .before .before .before .args .ids .now)) × (getD (c .before .before .before .before .before .before .before .before .args .ids .now) (c .place-near .result) 0 ≡ getD (c .before .before .before .before .before .before .before .before .args .list .now) (c .before .before .before .loop .k) 0)
+within : (c : tie.After-place-of Inv-loop μ-loop) → (c .place-of .result < mostNames) × (c .place-of .result < length (c .before .before .before .before .before .before .before .before .before .args .ids .now)) × (getD (c .before .before .before .before .before .before .before .before .before .args .ids .now) (c .place-of .result) 0 ≡ getD (c .before .before .before .before .before .before .before .before .before .args .list .now) (c .before .before .before .before .loop .k) 0)
 within c =
-    let b = c .before .before .before .before .before .before .before .before in
-    let w = known (c .before .before) in
+    let b = c .before .before .before .before .before .before .before .before .before in
+    let w = known (c .before .before .before) in
     let p = placed c in
     let few = b .pre .0 .0 in
     let l = w .1 in
@@ -52,20 +56,20 @@ small c i =
     rw (c .loop .inv .3) (tallied-bound (b .args .ids .now) (take (c .loop .k) (b .args .list .now)) (b .args .counts .now) 65535 (b .pre .1 .3) i)
 
 -- there is room for one that is met first
-room : (c : tie.Then1 Inv-loop μ-loop) → c .before .before .before .before .before .loop .m < mostNames
+room : (c : tie.Then1 Inv-loop μ-loop) → c .before .before .before .before .before .before .loop .m < mostNames
 room c =
-    let l = c .before .before .before .before .before in
-    met-room (l .loop .counts) (l .loop .met) (l .loop .m) (c .before .before .place-near .result) (l .loop .inv .4) (l .loop .inv .1) (within (c .before .before) .0) (c .if1 .taken)
+    let l = c .before .before .before .before .before .before in
+    met-room (l .loop .counts) (l .loop .met) (l .loop .m) (c .before .before .place-of .result) (l .loop .inv .4) (l .loop .inv .1) (within (c .before .before) .0) (c .if1 .taken)
 
 -- the counts after the posting
-counted : (c : tie.Joined1 Inv-loop μ-loop) → set (c .before .before .before .before .before .loop .counts) (c .before .before .place-near .result) (getD (c .before .before .before .before .before .loop .counts) (c .before .before .place-near .result) 0 + 1) ≡ tallied (c .before .before .before .before .before .before .before .before .before .before .args .ids .now) (take (c .before .before .before .before .before .loop .k + 1) (c .before .before .before .before .before .before .before .before .before .before .args .list .now)) (c .before .before .before .before .before .before .before .before .before .before .args .counts .now)
+counted : (c : tie.Joined1 Inv-loop μ-loop) → set (c .before .before .before .before .before .before .loop .counts) (c .before .before .place-of .result) (getD (c .before .before .before .before .before .before .loop .counts) (c .before .before .place-of .result) 0 + 1) ≡ tallied (c .before .before .before .before .before .before .before .before .before .before .before .args .ids .now) (take (c .before .before .before .before .before .before .loop .k + 1) (c .before .before .before .before .before .before .before .before .before .before .before .args .list .now)) (c .before .before .before .before .before .before .before .before .before .before .before .args .counts .now)
 counted c =
-    let l = c .before .before .before .before .before in
+    let l = c .before .before .before .before .before .before in
     let b = l .before .before .before .before .before in
     let w = within (c .before .before) in
-    ap (λ (t : List ℕ). set t (c .before .before .place-near .result) (getD t (c .before .before .place-near .result) 0 + 1)) (l .loop .inv .3)
-    ∙ tallied-step (b .args .ids .now) (b .args .list .now) (b .args .counts .now) (b .pre .0 .0) (b .pre .0 .1) (l .loop .k) (c .before .before .place-near .result) (c .before .before .before .before .loop-test .taken)
-    (distinct-fresh (b .args .list .now) (l .loop .k) (ascending-distinct (b .args .list .now) (b .pre .0 .2)) (c .before .before .before .before .loop-test .taken))
+    ap (λ (t : List ℕ). set t (c .before .before .place-of .result) (getD t (c .before .before .place-of .result) 0 + 1)) (l .loop .inv .3)
+    ∙ tallied-step (b .args .ids .now) (b .args .list .now) (b .args .counts .now) (b .pre .0 .0) (b .pre .0 .1) (l .loop .k) (c .before .before .place-of .result) (c .before .before .before .before .before .loop-test .taken)
+    (distinct-fresh (b .args .list .now) (l .loop .k) (ascending-distinct (b .args .list .now) (b .pre .0 .2)) (c .before .before .before .before .before .loop-test .taken))
     (w .1) (w .2)
 
 loop-holds : tie.Need-loop-holds Inv-loop μ-loop
@@ -73,14 +77,17 @@ loop-holds c =
     let b = c .before .before .before .before in
     (omega arith, b .pre .1 .0, b .pre .1 .1, sym (tallied-nil (b .args .ids .now) (b .args .list .now) (b .args .counts .now) (b .pre .1 .0)), b .pre .1 .2)
 
-mul-place-near : tie.Need-mul-place-near Inv-loop μ-loop
-mul-place-near c = omega arith
+mul-seat-near : tie.Need-mul-seat-near Inv-loop μ-loop
+mul-seat-near c = omega arith
 
-shared-slice-read-place-near : tie.Need-shared-slice-read-place-near Inv-loop μ-loop
-shared-slice-read-place-near c = omega arith
+shared-slice-read-seat-near : tie.Need-shared-slice-read-seat-near Inv-loop μ-loop
+shared-slice-read-seat-near c = omega arith
 
-place-near-requires : tie.Need-place-near-requires Inv-loop μ-loop
-place-near-requires c κs = c .before .before .before .before .before .before .before .pre .0 .1
+seat-near-requires : tie.Need-seat-near-requires Inv-loop μ-loop
+seat-near-requires c κs = c .before .before .before .before .before .before .before .pre .0 .1
+
+place-of-requires : tie.Need-place-of-requires Inv-loop μ-loop
+place-of-requires c κs = search needs
 
 add-next : tie.Need-add-next Inv-loop μ-loop
 add-next c = let l = within c .0 in omega arith
@@ -89,25 +96,25 @@ mul-count : tie.Need-mul-count Inv-loop μ-loop
 mul-count c = let w = within c in let l = w .0 in omega arith
 
 slice-read-count : tie.Need-slice-read-count Inv-loop μ-loop
-slice-read-count c = let w = within (c .before) in let l = w .0 in let e = c .before .before .before .before .loop .inv .1 in omega arith
+slice-read-count c = let w = within (c .before) in let l = w .0 in let e = c .before .before .before .before .before .loop .inv .1 in omega arith
 
 mul-met : tie.Need-mul-met Inv-loop μ-loop
 mul-met c = let r = room c in omega arith
 
 slice-write-met : tie.Need-slice-write-met Inv-loop μ-loop
-slice-write-met c = let r = room c in let e = c .before .before .before .before .before .loop .inv .2 in omega arith
+slice-write-met c = let r = room c in let e = c .before .before .before .before .before .before .loop .inv .2 in omega arith
 
 add-m : tie.Need-add-m Inv-loop μ-loop
 add-m c = let r = room c in omega arith
 
 add-counts : tie.Need-add-counts Inv-loop μ-loop
-add-counts c = let s = small (c .before .before .before .before .before) (c .before .before .place-near .result) in omega arith
+add-counts c = let s = small (c .before .before .before .before .before .before) (c .before .before .place-of .result) in omega arith
 
 mul-counts : tie.Need-mul-counts Inv-loop μ-loop
 mul-counts c = let w = within (c .before .before) in let l = w .0 in omega arith
 
 slice-write-counts : tie.Need-slice-write-counts Inv-loop μ-loop
-slice-write-counts c = let w = within (c .before .before) in let l = w .0 in let e = c .before .before .before .before .before .loop .inv .1 in omega arith
+slice-write-counts c = let w = within (c .before .before) in let l = w .0 in let e = c .before .before .before .before .before .before .loop .inv .1 in omega arith
 
 add-k : tie.Need-add-k Inv-loop μ-loop
 add-k c = omega arith
@@ -117,8 +124,8 @@ loop-less c = omega arith
 
 loop-again : tie.Need-loop-again Inv-loop μ-loop
 loop-again c =
-    let l = c .before .before .before .before .before in
-    let i = c .before .before .place-near .result in
+    let l = c .before .before .before .before .before .before in
+    let i = c .before .before .place-of .result in
     let w = within (c .before .before) in
     let v = getD (l .loop .counts) i 0 + 1 in
     ⊎-elim
@@ -159,9 +166,10 @@ tally-spec =
     Inv-loop
     μ-loop
     loop-holds
-    mul-place-near
-    shared-slice-read-place-near
-    place-near-requires
+    mul-seat-near
+    shared-slice-read-seat-near
+    seat-near-requires
+    place-of-requires
     add-next
     mul-count
     slice-read-count

@@ -3,7 +3,7 @@ use mathlib.Core.Path.{sym, _∙_}
 use Prim.Native.Nat.{_%_}
 use native.Mathlib.Omega.{arith}
 use Rattle.index.proofs.Facts.{head-facts}
-use Rattle.index.proofs.Names.{names-within, for-near}
+use Rattle.index.proofs.Names.{names-within, for-met}
 use borrow.Author.Needs.{needs}
 use Rattle.index.proofs.name_near.Statement.{statement}
 use Rattle.index.proofs.name_near.Tie as tie
@@ -37,7 +37,7 @@ returns c =
     let s = c .before .before .before .before .before .before .before .before .before in
     let e = c .before .before .before .before .before .name-count .ensures .0 in
     let t = c .before .before .before .before .if1 .taken in
-    for-near (s .args .words .now) (s .pre .0) (s .args .size) (s .args .id) _ (omega arith)
+    for-met (s .args .words .now) (s .pre .0) (s .args .size) (s .args .id) _ (omega arith)
     (sym (c .before .before .before .name-id .ensures) ∙ c .before .before .if2 .taken)
     (sym (c .before .name-size .ensures) ∙ c .if3 .taken)
 

@@ -6,9 +6,8 @@ use native.Mathlib.Omega.{arith}
 use lib.ListN.{length, set}
 use Rattle.laws.proofs.Tables.{tableOver, over-nil, over-step, length-over}
 use Rattle.words.specs.Words.{nameCount, nameId}
-use Rattle.index.specs.Good.{mostNames}
+use Rattle.index.specs.Good.{mostNames, idsIn}
 use Rattle.index.proofs.Laws.{good-three, good-within, good-names-most}
-use Rattle.sizes.specs.Tables.{idsOf}
 use Rattle.search.proofs.name_ids.Statement.{statement}
 use Rattle.search.proofs.name_ids.Tie as tie
 
@@ -84,7 +83,7 @@ same-length c =
     ap length (l .inv .2) ∙ length-over (nameId (b .args .words .now)) (l .i) (b .args .table .now) (omega arith)
 
 returns : tie.Need-returns Inv-loop μ-loop
-unfolding idsOf
+unfolding idsIn
 returns c =
     let b = c .before .before .before .before .before in
     let l = c .before .loop in

@@ -8,9 +8,8 @@ use lib.ListN.{length, take, drop, replicate, length-append, length-drop, length
 use lib.Seq.{take-at, length-take-le}
 use Rattle.likeness.specs.declared.Threshold.{Threshold}
 use Rattle.words.specs.Words.{nameCount}
-use Rattle.index.specs.Good.{mostNames}
+use Rattle.index.specs.Good.{mostNames, idsIn}
 use Rattle.index.proofs.Laws.{good-three, good-names-most}
-use Rattle.sizes.specs.Tables.{idsOf}
 use Rattle.search.specs.Places.{placesIn}
 use Rattle.search.specs.Answers.{asColumns, roomOf}
 use Rattle.search.specs.declared.Answer.the-variants.{Found}
@@ -36,7 +35,7 @@ name-ids-requires c κs =
 -- the table has room for the ids, and they stand in front
 pub record Ids (c : tie.After-name-ids) : Type 0 where
   pub room : c .before .before .name-count .result ≤ length (c .name-ids .last .1 .0)
-  pub front : take (c .before .before .name-count .result) (c .name-ids .last .1 .0) ≡ idsOf (c .before .before .before .before .before .before .before .before .args .words .now)
+  pub front : take (c .before .before .name-count .result) (c .name-ids .last .1 .0) ≡ idsIn (c .before .before .before .before .before .before .before .before .args .words .now)
 
 ids : (c : tie.After-name-ids) → Ids c
 ids c =
@@ -44,10 +43,10 @@ ids c =
     let n = c .before .before .name-count .ensures .0 in
     let l = length-ids w in
     let rest : List ℕ = drop (nameCount w) (replicate mostNames 0) in
-    let m = ap length (c .name-ids .ensures) ∙ length-append (idsOf w) rest in
+    let m = ap length (c .name-ids .ensures) ∙ length-append (idsIn w) rest in
     record {
       room = omega arith;
-      front = ap₂ take n (c .name-ids .ensures) ∙ take-at (idsOf w) rest (nameCount w) l;
+      front = ap₂ take n (c .name-ids .ensures) ∙ take-at (idsIn w) rest (nameCount w) l;
     }
 
 array-share-prefix-table : tie.Need-array-share-prefix-table

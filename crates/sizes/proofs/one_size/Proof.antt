@@ -9,11 +9,11 @@ use borrow.Author.Needs.{needs}
 use borrow.Author.Tests.{leb-false, not-true, not-false}
 use lib.ListN.{length, getD}
 use Rattle.laws.specs.Lists.{Ascending}
-use Rattle.index.specs.Good.{mostNames}
+use Rattle.index.specs.Good.{mostNames, idsIn}
 use Rattle.candidates.specs.Method.{signatures, laterCount, postingsOf}
 use Rattle.candidates.specs.Tables.{Readable, cutLists, laterTouches, remainTable, kept, Walked}
 use Rattle.sizes.specs.Method.{listsFor, touchesAt}
-use Rattle.sizes.specs.Tables.{filledOf, idsOf, Asked, Sized}
+use Rattle.sizes.specs.Tables.{filledOf, Asked, Sized}
 use Rattle.candidates.proofs.Spending.{spend-within}
 use Rattle.sizes.proofs.Size.{ids-few, ids-rise, length-keys, cut-lists, cut-readable, touches-at}
 use Rattle.sizes.proofs.EmptySignatures.{idle-touches, idle-answers}
@@ -61,7 +61,7 @@ walk-lists-requires c κs =
     let room : length f ≤ length starts = (let q = o .kept .1 .1 .1 .1 .0 in let r = b .pre .1 .starting in let p = b .pre .0 .2 .few in omega arith) in
     let w = b .args .words .now in
     let y = b .args .size in
-    let e : b .args .ids .now ≡ idsOf w = b .pre .0 .1 in
+    let e : b .args .ids .now ≡ idsIn w = b .pre .0 .1 in
     let l = length-keys w (b .pre .0 .0) y f (b .pre .0 .2) keys starts (u .0) (u .1) room in (
       (
         subst (λ (l : List ℕ). length l ≤ mostNames) (sym e) (ids-few w (b .pre .0 .0)),
@@ -104,7 +104,7 @@ returns-2 c =
     let room : length f ≤ length starts = (let q = o .kept .1 .1 .1 .1 .0 in let r = b .pre .1 .starting in let p = b .pre .0 .2 .few in omega arith) in
     let w = b .args .words .now in
     let y = b .args .size in
-    let e : b .args .ids .now ≡ idsOf w = b .pre .0 .1 in
+    let e : b .args .ids .now ≡ idsIn w = b .pre .0 .1 in
     let ls : cutLists w keys starts ≡ listsFor w y f = cut-lists w (b .pre .0 .0) y f (b .pre .0 .2) keys starts (u .0) (u .1) room in
     let v = c .before .before .before .before .before .before .walk-lists .ensures in
     let t = touches-at w (b .pre .0 .0) y f (b .pre .0 .2) (b .args .least) in

@@ -12,12 +12,12 @@ use Rattle.laws.proofs.Order.{eq-or-ne}
 use Rattle.likeness.specs.Least.{leastCount}
 use Rattle.likeness.proofs.Least.{least-pos, least-within}
 use Rattle.likeness.proofs.Sizes.{searched-good}
-use Rattle.index.specs.Good.{mostNames}
+use Rattle.index.specs.Good.{mostNames, idsIn}
 use Rattle.candidates.specs.Method.{laterCount}
 use Rattle.candidates.specs.Tables.{remainTable, kept}
 use Rattle.candidates.proofs.Spending.{spend-within}
 use Rattle.sizes.specs.Method.{listsFor, touchesAt, touchesOfSize}
-use Rattle.sizes.specs.Tables.{presentAt, idsOf, Sized, Stepped, answersTable}
+use Rattle.sizes.specs.Tables.{presentAt, Sized, Stepped, answersTable}
 use Rattle.sizes.proofs.Present.{present-none, present-of-none}
 use Rattle.sizes.proofs.Work.{nobody-zero}
 use Rattle.sizes.proofs.Answering.{answers-skipped, unsearched, nobody, answers-searched, length-answers, touches-searched, touches-unsearched, touches-nobody}
@@ -122,7 +122,7 @@ returns-3 c =
       spent = rw t at (v .spent);
       answers = λ z.
           v .answers z
-          ∙ ap₂ (λ (l : ℕ) (k : List ℕ). kept (remainTable (idsOf (b .args .words .now)) (listsFor (b .args .words .now) (b .args .y) f) l (laterCount (listsFor (b .args .words .now) (b .args .y) f) l)) k) e (b .pre .0 .6)
+          ∙ ap₂ (λ (l : ℕ) (k : List ℕ). kept (remainTable (idsIn (b .args .words .now)) (listsFor (b .args .words .now) (b .args .y) f) l (laterCount (listsFor (b .args .words .now) (b .args .y) f) l)) k) e (b .pre .0 .6)
           ∙ answers-searched (b .args .words .now) (b .pre .0 .0) (b .args .measure) (b .args .p) (b .args .q) (b .args .features .now) (b .pre .0 .2) (b .args .y) s low (omega arith);
       cleared = v .cleared;
       none = λ z. (v .none z .0, v .none z .1 ∙ b .pre .0 .6);

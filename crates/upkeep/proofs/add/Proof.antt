@@ -11,12 +11,15 @@ use Rattle.names.specs.Names.{judgeOf}
 use Rattle.names.specs.Features.{mostFeatures}
 use Rattle.names.proofs.Laws.{size-most}
 use Rattle.words.specs.Words.{nameCount}
-use Rattle.index.specs.Good.{mostNames, Good}
-use Rattle.index.proofs.Laws.{good-three, good-names-most}
+use Rattle.binary_search.specs.declared.Seat.the-variants.{Before}
+use Rattle.binary_search.specs.Seats.{seatOf}
+use Rattle.binary_search.proofs.Seats.{seat-missing}
+use Rattle.index.specs.Good.{mostNames, idsIn, Good}
+use Rattle.index.proofs.Laws.{good-three, good-names-most, good-named}
 use Rattle.upkeep.specs.Upkeep.{isLive}
 use Rattle.upkeep.specs.Adding.{Addable}
 use Rattle.upkeep.proofs.Judging.{add-bad, add-name, add-live, add-full}
-use Rattle.upkeep.proofs.Laws.{names-good}
+use Rattle.upkeep.proofs.Laws.{seat-live, seat-unused}
 use Rattle.upkeep.proofs.Adding.{add-refused, addable, add-done}
 use Rattle.upkeep.proofs.add.Statement.{statement}
 use Rattle.upkeep.proofs.add.Tie as tie
@@ -28,11 +31,11 @@ start c = c .before .before .before .before .before
 abbrev first : tie.Else2 → tie.Else1
 first c = c .before .before
 
-abbrev second : tie.Else3 → tie.Else2
-second c = c .before .before .before .before .before
+abbrev second : tie.After-seat → tie.Else2
+second c = c .before .before .before .before
 
-abbrev third : tie.Else4 → tie.Else3
-third c = c .before .before .before
+abbrev third : tie.Else3 → tie.After-seat
+third c = c .before .before .before .before
 
 -- what each test leaves
 good : (c : tie.Else1) → Good (start c .args .words .now)
@@ -41,14 +44,17 @@ good c = sym (c .before .good2 .ensures) ∙ not-false _ (c .if1 .left)
 named : (c : tie.Else2) → judgeOf (start (first c) .args .name .now) ≡ 0
 named c = sym (c .before .judge .ensures) ∙ c .if2 .left
 
-unused : (c : tie.Else3) → let a = start (first (second c)) .args in isLive (a .words .now) (a .id) ≡ false
-unused c = sym (c .before .is-live .ensures) ∙ c .if3 .left
+missing : (c : tie.After-seat) → let a = start (first (second c)) .args in seatOf (idsIn (a .words .now)) (a .id) ≡ Before (c .seat .given .0 .0)
+missing c = sym (c .before .before .name-seat .ensures) ∙ c .seat .given .1
 
-few : (c : tie.Else4) → nameCount (start (first (second (third c))) .args .words .now) < mostNames
+unused : (c : tie.After-seat) → let a = start (first (second c)) .args in isLive (a .words .now) (a .id) ≡ false
+unused c = let a = start (first (second c)) .args in seat-unused (a .words .now) (a .id) (c .seat .given .0 .0) (missing c)
+
+few : (c : tie.Else3) → nameCount (start (first (second (third c))) .args .words .now) < mostNames
 few c =
     let g = first (second (third c)) in
     let e = c .before .name-count .ensures .0 in
-    let h = c .if4 .left in
+    let h = c .if3 .left in
     let m = good-names-most (start g .args .words .now) (good g) in
     omega arith
 
@@ -63,15 +69,17 @@ features-part : (c : tie.After-sorted-features) → c .sorted-features .result �
 features-part c = let k = c .sorted-features .kept .1 .0 in let m = size c in omega arith
 
 fit : (c : tie.After-sorted-features)
-    → let a = start (passed c) .args in let x = c .sorted-features in Addable (a .words .now) (a .id) (c .before .before .before .before .before .before .before .before .name-place .result) (take (x .result) (x .last .1 .0))
+    → let a = start (passed c) .args in
+    let x = c .sorted-features in
+    Addable (a .words .now) (a .id) (third (c .before .before) .seat .given .0 .0) (take (x .result) (x .last .1 .0))
 fit c =
     let d = c .before .before in
     let s = start (passed c) in
     let x = c .sorted-features in
-    let p = c .before .before .before .before .before .before .before .before .name-place in
+    let t = third d in
     let b = s .fits in
-    addable (s .args .words .now) (s .args .id) (s .args .name .now) (good (passed c)) (named (second (third d))) (unused (third d)) (few d) (take (x .result) (x .last .1 .0)) (x .ensures .1)
-    (p .result) (p .ensures) (λ j. (let q = passed c .before .before .before .shared-slice-known .given j in omega arith)) (omega arith)
+    addable (s .args .words .now) (s .args .id) (s .args .name .now) (good (passed c)) (named (second t)) (unused t) (few d) (take (x .result) (x .last .1 .0)) (x .ensures .1)
+    (t .seat .given .0 .0) (sym (seat-missing (idsIn (s .args .words .now)) (s .args .id) (t .seat .given .0 .0) (missing t) .1)) (λ j. (let q = passed c .before .before .before .shared-slice-known .given j in omega arith)) (omega arith)
 
 good-requires : tie.Need-good-requires
 good-requires c κs = search needs
@@ -97,34 +105,38 @@ returns-2 c =
     let n = c .if2 .taken in
     add-refused (a .words .now) (a .id) (a .name .now) (c .before .judge .result) (add-name (a .words .now) (a .id) (a .name .now) (good (c .before .before)) (λ z. n (e ∙ z)) ∙ sym e) n
 
-name-place-requires : tie.Need-name-place-requires
-name-place-requires c κs = let g = c .before .before .before in names-good (start g .args .words .now) (good g)
+name-seat-requires : tie.Need-name-seat-requires
+name-seat-requires c κs = let g = c .before .before .before in good-named (start g .args .words .now) (good g)
 
-is-live-requires : tie.Need-is-live-requires
-is-live-requires c κs = (good (c .before .before .before .before .before), c .before .name-place .ensures)
+enum-known-seat : tie.Need-enum-known-seat
+enum-known-seat c = search needs
+
+enum-told : tie.Need-enum-told
+enum-told c = search needs
 
 same-length-3 : tie.Need-same-length-3
 same-length-3 c = search needs
 
 returns-3 : tie.Need-returns-3
 returns-3 c =
-    let d = c .before .before .before .before .before in
+    let d = c .before .before .before .before in
     let a = start (first d) .args in
-    add-refused (a .words .now) (a .id) (a .name .now) 9 (add-live (a .words .now) (a .id) (a .name .now) (good (first d)) (named d) (sym (c .before .is-live .ensures) ∙ c .if3 .taken)) (λ z. omega arith)
+    let live = seat-live (a .words .now) (a .id) _ (sym (c .before .before .name-seat .ensures) ∙ c .enum-told .given .1) in
+    add-refused (a .words .now) (a .id) (a .name .now) 9 (add-live (a .words .now) (a .id) (a .name .now) (good (first d)) (named d) live) (λ z. omega arith)
 
 name-count-requires : tie.Need-name-count-requires
-name-count-requires c κs = let g = first (second (c .before)) in good-three (start g .args .words .now) (good g)
+name-count-requires c κs = let g = first (second (c .before .before)) in good-three (start g .args .words .now) (good g)
 
 same-length-4 : tie.Need-same-length-4
 same-length-4 c = search needs
 
 returns-4 : tie.Need-returns-4
 returns-4 c =
-    let d = c .before .before .before in
+    let d = c .before .before .before .before in
     let g = first (second d) in
     let a = start g .args in
     let e = c .before .name-count .ensures .0 in
-    let h = c .if4 .taken in
+    let h = c .if3 .taken in
     add-refused (a .words .now) (a .id) (a .name .now) 10 (add-full (a .words .now) (a .id) (a .name .now) (good g) (named (second d)) (unused d) (omega arith)) (λ z. omega arith)
 
 slice-aggregate-sorted-features : tie.Need-slice-aggregate-sorted-features
@@ -183,8 +195,9 @@ add-spec =
     judge-requires
     same-length-2
     returns-2
-    name-place-requires
-    is-live-requires
+    name-seat-requires
+    enum-known-seat
+    enum-told
     same-length-3
     returns-3
     name-count-requires

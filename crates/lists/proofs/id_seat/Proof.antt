@@ -5,10 +5,10 @@ use Prim.Native.Nat.{ℕ, _+_, _-_}
 use native.Mathlib.Omega.{arith}
 use lib.ListN.{take, drop}
 use Rattle.words.specs.Words.{rowPlace, rowLength, postingsStart, listStart, listAt}
-use Rattle.changes.specs.Places.{placeOf}
+use Rattle.binary_search.specs.Seats.{seatOf}
 use borrow.Author.Needs.{needs}
-use Rattle.seats.proofs.id_seat.Statement.{statement}
-use Rattle.seats.proofs.id_seat.Tie as tie
+use Rattle.lists.proofs.id_seat.Statement.{statement}
+use Rattle.lists.proofs.id_seat.Tie as tie
 
 -- a row's list, by the numbers that the code reads
 part : (w : List ℕ) (r s p l : ℕ) → s ≡ postingsStart w → p ≡ rowPlace w r → l ≡ rowLength w r → take (s + p + l - (s + p)) (drop (s + p) w) ≡ listAt w r
@@ -33,20 +33,20 @@ row-length-requires c κs = search needs
 add-end : tie.Need-add-end
 add-end c = search needs
 
-mul-place-in : tie.Need-mul-place-in
-mul-place-in c = search needs
+mul-seat-in : tie.Need-mul-seat-in
+mul-seat-in c = search needs
 
-sub-place-in : tie.Need-sub-place-in
-sub-place-in c = search needs
+sub-seat-in : tie.Need-sub-seat-in
+sub-seat-in c = search needs
 
-part-place-in-start : tie.Need-part-place-in-start
-part-place-in-start c = search needs
+part-seat-in-start : tie.Need-part-seat-in-start
+part-seat-in-start c = search needs
 
-part-place-in-end : tie.Need-part-place-in-end
-part-place-in-end c = search needs
+part-seat-in-end : tie.Need-part-seat-in-end
+part-seat-in-end c = search needs
 
-place-in-requires : tie.Need-place-in-requires
-place-in-requires c κs =
+seat-in-requires : tie.Need-seat-in-requires
+seat-in-requires c κs =
     let a = c .before .before .before .before .before .args in
     let e = part (a .words .now) (a .r) _ _ _ (c .before .before .before .postings-start .ensures .0) (c .before .before .row-place .ensures .0) (c .before .row-length .ensures .0) in
     rw e (c .before .before .before .before .before .pre .2)
@@ -56,7 +56,7 @@ returns c =
     let b = c .before in
     let a = b .before .before .before .before .before .args in
     let e = part (a .words .now) (a .r) _ _ _ (b .before .before .before .postings-start .ensures .0) (b .before .before .row-place .ensures .0) (b .before .row-length .ensures .0) in
-    c .place-in .ensures ∙ ap (placeOf (a .id)) e
+    c .seat-in .ensures ∙ ap (λ (l : List ℕ). seatOf l (a .id)) e
 
 pub id-seat-spec : {M : Type 1} → statement M
 id-seat-spec =
@@ -67,9 +67,9 @@ id-seat-spec =
     add-start
     row-length-requires
     add-end
-    mul-place-in
-    sub-place-in
-    part-place-in-start
-    part-place-in-end
-    place-in-requires
+    mul-seat-in
+    sub-seat-in
+    part-seat-in-start
+    part-seat-in-end
+    seat-in-requires
     returns)
