@@ -12,6 +12,7 @@ use lib.ListN.{length, getD, take, drop, length-append, length-map, List·getD-a
 use lib.Seq.{length-take-le}
 use lib.Dec.{ltb, eqb}
 use borrow.Author.Tests.{le-ltb, ltb-false, eqb-true}
+use Rattle.laws.specs.Lists.{tabulate}
 use Rattle.laws.proofs.Order.{le-or-lt}
 use Rattle.laws.proofs.Images.{getD-map-lt, tabulate-of}
 use Rattle.names.specs.Features.{featuresOf}
@@ -25,7 +26,7 @@ use Rattle.search.proofs.Outcomes.{admitted}
 use Rattle.search.proofs.Listed.{answers-most}
 use Rattle.search.specs.declared.Answer.{Answer}
 use Rattle.search.specs.declared.Answer.the-variants.{Found, Refused}
-use Rattle.rows.specs.Rows.{rowOf, recordsOf, rowAt, rowsFrom, Filled}
+use Rattle.rows.specs.Rows.{rowOf, recordsOf, rowAcross, Filled}
 use Rattle.rows.proofs.Lists.{noRow}
 
 -- ---- how many answers there are
@@ -119,15 +120,15 @@ column-entry f places l rest k h =
     ∙ getD-map-lt f places k 0 0 h
 
 -- columns that start with the places' rows have those rows
-pub columns-rows : (w query places : List ℕ) (c x : Columns) → rowsFrom (length places) (columnsThen (columnsOver (columnsOf w query places) c) x) ≡ recordsOf w query places
+pub columns-rows : (w query places : List ℕ) (c x : Columns) → tabulate (rowAcross (columnsThen (columnsOver (columnsOf w query places) c) x)) (length places) ≡ recordsOf w query places
 columns-rows w query places c x =
-    sym (tabulate-of (rowAt filled) (length places) noRow (recordsOf w query places) (length-map places (rowOf w query))
+    sym (tabulate-of (rowAcross filled) (length places) noRow (recordsOf w query places) (length-map places (rowOf w query))
     (λ k h. getD-map-lt (rowOf w query) places k 0 noRow h ∙ sym (same k h)))
   where
     filled : Columns
     filled = columnsThen (columnsOver (columnsOf w query places) c) x
 
-    same : (k : ℕ) → k < length places → rowAt filled k ≡ rowOf w query (getD places k 0)
+    same : (k : ℕ) → k < length places → rowAcross filled k ≡ rowOf w query (getD places k 0)
     same k h = λ t. record {
       id = column-entry (nameId w) places (drop (length (map (nameId w) places)) (c .ids)) (x .ids) k h t;
       shared = column-entry (sharedWith w query) places (drop (length (map (sharedWith w query) places)) (c .shared)) (x .shared) k h t;
@@ -151,11 +152,11 @@ room-cut c n e f g =
 -- a search of columns that are cut at the room, with whatever stands after the cuts
 pub filled : (s : List ℕ) (m p q allowance : ℕ) (w : List ℕ) (room n : ℕ) (r : Answer) (before after rest : Columns) → n ≡ min room mostNames
     → Searched s m p q allowance w before after r → length (before .ids) ≡ n → length (before .shared) ≡ n → length (before .sizes) ≡ n
-    → Filled s m p q allowance w room r (columnsThen after rest)
+    → Filled s m p q allowance w room r (rowAcross (columnsThen after rest))
 filled s m p q allowance w room n r before after rest cut e li lh lz = record {
   answer = right;
   rows =
-      (λ t. rowsFrom (counted t) (columnsThen (e .columns t) rest))
+      (λ t. tabulate (rowAcross (columnsThen (e .columns t) rest)) (counted t))
       ∙ columns-rows w (featuresOf s) (placesGiven s m p q allowance w (roomOf before)) before rest
       ∙ ap (λ (x : Answer). recordsOf w (featuresOf s) (givenBy x (answersOf w m p q (featuresOf s)))) same;
   few = comes .2;

@@ -1,4 +1,5 @@
--- Worked examples, by computation: two given rows over three that stood there, none over them, and the first two rows of three columns.
+-- Worked examples, by computation: two given rows over three that stood there, none over them, the first two rows of three columns, and two rows as
+-- cells and back.
 -- Assumes nothing.
 use mathlib.Core.Path.{_≡_, refl}
 use mathlib.Core.List.{List, [], _∷_}
@@ -6,7 +7,7 @@ use Prim.Native.Nat.{ℕ}
 use Rattle.laws.specs.Lists.{tabulate}
 use Rattle.rows.specs.declared.Row.{Row}
 use Rattle.search.specs.Answers.{asColumns}
-use Rattle.rows.specs.Rows.{overRows, rowsFrom}
+use Rattle.rows.specs.Rows.{overRows, rowAcross, rowIn, cellsOf}
 
 row : ℕ → ℕ → ℕ → Row
 row i c y = record { id = i; shared = c; size = y }
@@ -22,6 +23,14 @@ behind-kept = refl
 none-given : overRows [] stood ≡ stood
 none-given = refl
 
-columns : rowsFrom 2 (asColumns (10 ∷ 11 ∷ 0 ∷ []) (6 ∷ 4 ∷ 0 ∷ []) (6 ∷ 7 ∷ 0 ∷ [])) ≡ row 10 6 6 ∷ row 11 4 7 ∷ []
+columns : tabulate (rowAcross (asColumns (10 ∷ 11 ∷ 0 ∷ []) (6 ∷ 4 ∷ 0 ∷ []) (6 ∷ 7 ∷ 0 ∷ []))) 2 ≡ row 10 6 6 ∷ row 11 4 7 ∷ []
 unfolding row tabulate
 columns = refl
+
+cells : cellsOf (row 10 6 6 ∷ row 11 4 7 ∷ []) ≡ 10 ∷ 6 ∷ 6 ∷ 11 ∷ 4 ∷ 7 ∷ []
+unfolding row cellsOf
+cells = refl
+
+read-cells : tabulate (rowIn (10 ∷ 6 ∷ 6 ∷ 11 ∷ 4 ∷ 7 ∷ 0 ∷ 0 ∷ 0 ∷ [])) 2 ≡ row 10 6 6 ∷ row 11 4 7 ∷ []
+unfolding row tabulate
+read-cells = refl

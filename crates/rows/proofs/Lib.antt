@@ -1,5 +1,7 @@
 pub mod Lists
+pub mod Cells
 pub mod Slices
+pub mod Walking
 pub mod Arrays
 pub mod Passed
 pub mod Answers

@@ -1,7 +1,7 @@
--- Laws on lists of rows: the first rows of three columns written over a list, one by one. Cited by the proofs of `put_rows` and `search_rows`.
+-- Laws on lists of rows: rows written over a list, one by one. Cited by the proofs of `put_rows` and `search_rows`.
 -- Assumes nothing.
 use mathlib.Core.Path.{_≡_, refl, sym, ap, _∙_}
-use mathlib.Core.List.{List, [], _∷_, _++_}
+use mathlib.Core.List.{List, [], _++_}
 use Prim.Native.Nat.{ℕ, suc, _≤_, _<_}
 use native.Mathlib.Omega.{arith}
 use lib.ListN.{length, getD, drop, set, length-append, length-drop}
@@ -9,11 +9,11 @@ use lib.Seq.{drop-cons, set-at, append-snoc}
 use Rattle.laws.specs.Lists.{tabulate}
 use Rattle.laws.proofs.Lists.{length-tabulate}
 use Rattle.rows.specs.declared.Row.{Row}
-use Rattle.rows.specs.Rows.{overRows}
+use Rattle.rows.specs.Rows.{overRows, rowIn}
 
 -- any row, for what stands past an end
 abbrev pub noRow : Row
-noRow = record { id = 0; shared = 0; size = 0 }
+noRow = rowIn [] 0
 
 -- the first k rows over the list l
 abbrev pub rowsOver : (ℕ → Row) → ℕ → List Row → List Row

@@ -1,8 +1,9 @@
--- Answer rows as records: the row of a name, the rows of an answer, and what a lent list of rows holds afterwards.
+-- Answer rows as records: the row of a name, the rows of an answer, and what a lent list of rows holds afterwards; and rows as they stand in columns and
+-- in cells before they are records.
 -- What a search answers, and which names it gives, is in the crate `search`, specs/Answers.antt. Assumes nothing.
 use mathlib.Core.Path.{_≡_}
-use mathlib.Core.List.{List, _++_, map}
-use Prim.Native.Nat.{ℕ, _≤_}
+use mathlib.Core.List.{List, [], _∷_, _++_, map}
+use Prim.Native.Nat.{ℕ, _+_, _*_, _≤_}
 use lib.ListN.{length, getD, drop}
 use Rattle.laws.specs.Lists.{tabulate}
 use Rattle.names.specs.Features.{featuresOf}
@@ -37,17 +38,34 @@ rowsAfter query m p q allowance w rows = overRows (recordsOf w (featuresOf query
 abbrev pub columnsIn : List Row → Columns
 columnsIn l = record { ids = map (λ (r : Row). r .id) l; shared = map (λ (r : Row). r .shared) l; sizes = map (λ (r : Row). r .size) l }
 
--- row k of the columns; past the end of a column its field is 0
-abbrev pub rowAt : Columns → ℕ → Row
-rowAt c k = record { id = getD (c .ids) k 0; shared = getD (c .shared) k 0; size = getD (c .sizes) k 0 }
+-- row k across the columns; past the end of a column its field is 0
+abbrev pub rowAcross : Columns → ℕ → Row
+rowAcross c k = record { id = getD (c .ids) k 0; shared = getD (c .shared) k 0; size = getD (c .sizes) k 0 }
 
--- the first n rows of the columns
-abbrev pub rowsFrom : ℕ → Columns → List Row
-rowsFrom n c = tabulate (rowAt c) n
+-- ---- records and cells: a row's fields in order, one row after the other
 
--- the columns after a search with that room: its answer, and the columns' first rows, as many as it gives, are the given ones
-pub record Filled (query : List ℕ) (m p q allowance : ℕ) (w : List ℕ) (room : ℕ) (r : Answer) (c : Columns) : Type 0 where
+-- how many cells a row takes
+abbrev pub rowCells : ℕ
+rowCells = 3
+
+-- the cells of a row
+abbrev pub cellsIn : Row → List ℕ
+cellsIn r = r .id ∷ r .shared ∷ r .size ∷ []
+
+-- the cells of the rows; none of no row
+unfoldable pub cellsOf : List Row → List ℕ
+cellsOf [] = []
+cellsOf (r ∷ l) = cellsIn r ++ cellsOf l
+
+-- row k of the cells; past their end a field is 0
+abbrev pub rowIn : List ℕ → ℕ → Row
+rowIn cells k = record { id = getD cells (rowCells * k) 0; shared = getD cells (rowCells * k + 1) 0; size = getD cells (rowCells * k + 2) 0 }
+
+-- ---- what a search leaves before its rows are records
+
+-- a search with that room, where `row k` is row k of what it leaves: its answer, and the first rows, as many as it gives, are the given ones
+pub record Filled (query : List ℕ) (m p q allowance : ℕ) (w : List ℕ) (room : ℕ) (r : Answer) (row : ℕ → Row) : Type 0 where
   pub answer : r ≡ searchOf query m p q allowance w room
-  pub rows : rowsFrom (rowsIn r) c ≡ recordsOf w (featuresOf query) (placesGiven query m p q allowance w room)
+  pub rows : tabulate row (rowsIn r) ≡ recordsOf w (featuresOf query) (placesGiven query m p q allowance w room)
   pub few : rowsIn r ≤ mostNames
   pub within : rowsIn r ≤ room

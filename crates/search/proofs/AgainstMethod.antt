@@ -1,15 +1,15 @@
 -- The whole search, as the code has it, is the method's: sorted features change nothing, and the answers' table holds the rows.
--- Cited by the proofs of `cover_sizes` and, in Running.antt, of `run`, and by `statements`.
+-- Cited by the proofs of `sorted_features` and, in Running.antt, of `run`, and by `statements`.
 -- Assumes nothing.
 use mathlib.Core.Path.{_≡_, refl, sym, ap, ap₂, _∙_}
 use mathlib.Core.Logic.{_⊎_, ⊎-elim}
-use mathlib.Core.Bool.{Bool, true, false, cond, _&&_, true≢false}
+use mathlib.Core.Bool.{Bool, true, false, cond, true≢false}
 use mathlib.Core.List.{List, [], _∷_, _++_, map}
 use Prim.Native.Nat.{ℕ, _+_, _-_, _%_, _≤_, _<_}
 use native.Mathlib.Omega.{arith}
-use lib.ListN.{length, getD, take, replicate, length-append, length-replicate}
-use lib.Seq.{take-append-seam}
-use lib.Dec.{leb, ltb}
+use lib.ListN.{length, getD, take, drop, replicate, length-append, length-replicate}
+use lib.Seq.{take-append-seam, drop-append-seam}
+use lib.Dec.{leb}
 use borrow.Author.Tests.{le-leb, lt-ltb}
 use Rattle.laws.specs.Sort.{insert, sortOf}
 use Rattle.laws.proofs.Lists.{getD-tabulate}
@@ -24,16 +24,17 @@ use Rattle.names.specs.Names.{judgeOf}
 use Rattle.names.specs.Features.{mostFeatures, characters, featuresOf}
 use Rattle.names.specs.Set.{filled}
 use Rattle.names.specs.declared.FeatureSet.{FeatureSet}
-use Rattle.names.proofs.Laws.{size-within, distinct-features, feature-fits}
+use Rattle.names.proofs.Laws.{size-within, size-most, distinct-features, feature-fits}
 use Rattle.words.specs.Words.{nameCount, nameSize, featureSpan, keyOf}
 use Rattle.index.specs.Good.{Good, mostNames}
 use Rattle.index.proofs.Laws.{good-name-within, good-names-most}
 use Rattle.lists.specs.Lists.{listIn}
 use Rattle.sizes.specs.Method.{orderedFor, listsFor, sharedWith, sizesEnd, touchesOfSize, touchesOf, listed, answersOf}
-use Rattle.sizes.specs.Tables.{Asked, answeredAt, answersTable}
+use Rattle.sizes.specs.Tables.{Asked, leastsOf, answeredAt, answersTable}
 use Rattle.search.specs.Places.{placesIn}
 use Rattle.sizes.proofs.Laws.{Query, listed-similar}
 use Rattle.sizes.proofs.Size.{asked-query}
+use Rattle.sizes.proofs.Leasts.{listed-leasts}
 
 -- ---- sorted features change nothing
 
@@ -88,7 +89,7 @@ module _ (w : List ℕ) (m p q : ℕ) (f : List ℕ) where
   answers-sorted = passing-ext (nameCount w) (listed w m p q (sortOf f)) (listed w m p q f) (λ i h. listed-sorted i)
 
 -- a query's features, sorted, are features as the code has them
-pub asked-of : (f : List ℕ) → Query f → length f ≤ mostFeatures → Asked (sortOf f)
+asked-of : (f : List ℕ) → Query f → length f ≤ mostFeatures → Asked (sortOf f)
 asked-of f q h =
     record {
       some = rw (length-sort f) (q .some);
@@ -113,25 +114,29 @@ module _ (w : List ℕ) (good : Good w) (m p q : ℕ) (known : goodMeasure m ≡
       (λ (z : sharedWith w f i ≡ 0 → ⊥). omega arith)
       (eq-or-ne (sharedWith w f i) 0)
 
-  pub answer-at : (i : ℕ) → i < nameCount w → getD (answersTable w m p q f sizesEnd) i 0 ≡ cond (listed w m p q f i) (sharedWith w f i) 0
+  -- the table after all sizes, by the least counts of the query
+  abbrev table : List ℕ
+  table = answersTable w (leastsOf w m p q (length f)) f sizesEnd
+
+  answer-at : (i : ℕ) → i < nameCount w → getD table i 0 ≡ cond (listed w m p q f i) (sharedWith w f i) 0
   unfolding answersTable answeredAt
   answer-at i h =
       let n = good-names-most w good in
       let g = good-name-within w good i h in
       let y = g .2 in
-      getD-tabulate (λ (j : ℕ). cond (ltb j (nameCount w) && (ltb (nameSize w j) sizesEnd && listed w m p q f j)) (sharedWith w f j) 0) mostNames i 0 (omega arith)
-      ∙ (rw (lt-ltb i (nameCount w) h, lt-ltb (nameSize w i) sizesEnd (omega arith)))
+      getD-tabulate (λ (j : ℕ). cond (answeredAt w (leastsOf w m p q (length f)) f sizesEnd j) (sharedWith w f j) 0) mostNames i 0 (omega arith)
+      ∙ (rw (lt-ltb i (nameCount w) h, lt-ltb (nameSize w i) sizesEnd (omega arith), listed-leasts w good m p q f i h))
 
-  listed-at : (i : ℕ) → i < nameCount w → leb 1 (getD (answersTable w m p q f sizesEnd) i 0) ≡ listed w m p q f i
+  listed-at : (i : ℕ) → i < nameCount w → leb 1 (getD table i 0) ≡ listed w m p q f i
   listed-at i h = ap (leb 1) (answer-at i h) ∙ by-test (listed w m p q f i) refl
     where
       by-test : (b : Bool) → listed w m p q f i ≡ b → leb 1 (cond b (sharedWith w f i) 0) ≡ b
       by-test true e = le-leb 1 (sharedWith w f i) (answer-shares i h e)
       by-test false e = refl
 
-  pub places-answers : placesIn (answersTable w m p q f sizesEnd) (nameCount w) ≡ answersOf w m p q f
+  pub places-answers : placesIn table (nameCount w) ≡ answersOf w m p q f
   unfolding placesIn answersOf
-  places-answers = passing-ext (nameCount w) (λ (i : ℕ). leb 1 (getD (answersTable w m p q f sizesEnd) i 0)) (listed w m p q f) listed-at
+  places-answers = passing-ext (nameCount w) (λ (i : ℕ). leb 1 (getD table i 0)) (listed w m p q f) listed-at
 
   -- columns that agree at each answer
   pub column-answers : (g h : ℕ → ℕ) → ((i : ℕ) → i < nameCount w → listed w m p q f i ≡ true → g i ≡ h i)
@@ -139,8 +144,8 @@ module _ (w : List ℕ) (good : Good w) (m p q : ℕ) (known : goodMeasure m ≡
   unfolding answersOf
   column-answers g h e = image-ext (listed w m p q f) g (nameCount w) h e
 
-  pub shared-column : map (λ (i : ℕ). getD (answersTable w m p q f sizesEnd) i 0) (answersOf w m p q f) ≡ map (sharedWith w f) (answersOf w m p q f)
-  shared-column = column-answers (λ (i : ℕ). getD (answersTable w m p q f sizesEnd) i 0) (sharedWith w f) (λ i h e. answer-at i h ∙ (rw e))
+  pub shared-column : map (λ (i : ℕ). getD table i 0) (answersOf w m p q f) ≡ map (sharedWith w f) (answersOf w m p q f)
+  shared-column = column-answers (λ (i : ℕ). getD table i 0) (sharedWith w f) (λ i h e. answer-at i h ∙ (rw e))
 
 -- ---- the query's features in the set
 
@@ -154,6 +159,21 @@ filled-facts r f e h =
       ap length i ∙ length-append f (replicate (mostFeatures - length f) 0) ∙ (let z = length-replicate {A = ℕ} (mostFeatures - length f) 0 in let q : length f + length {A = ℕ} (replicate (mostFeatures - length f) 0) ≡ 66 = omega arith in q),
     )
 
+-- sorted in front, it is the set of the sorted features
+pub filled-sorted : (r : FeatureSet) (f t : List ℕ) → r ≡ filled f → t ≡ sortOf (take (r .len) (r .items))
+    → record { items = t ++ drop (r .len) (r .items); len = r .len } ≡ filled (sortOf f)
+filled-sorted r f t e s =
+    let zeros : List ℕ = replicate (mostFeatures - length f) 0 in
+    let n : r .len ≡ length f = ap (λ (x : FeatureSet). x .len) e in
+    let i : r .items ≡ f ++ zeros = ap (λ (x : FeatureSet). x .items) e in
+    let front : t ≡ sortOf f = s ∙ ap sortOf (ap₂ (λ (k : ℕ) (l : List ℕ). take k l) n i ∙ take-append-seam f zeros) in
+    let rest : drop (r .len) (r .items) ≡ zeros = ap₂ (λ (k : ℕ) (l : List ℕ). drop k l) n i ∙ drop-append-seam f zeros in
+    let same : length f ≡ length (sortOf f) = sym (length-sort f) in
+    λ k. record {
+      items = ap₂ (λ (a b : List ℕ). a ++ b) front (rest ∙ ap (λ (m : ℕ). replicate (mostFeatures - m) 0) same) k;
+      len = (n ∙ same) k;
+    }
+
 -- a good query, as the laws ask it
 pub query-features : (s : List ℕ) → judgeOf s ≡ 0 → ((j : ℕ) → getD s j 0 < characters) → Query (featuresOf s)
 query-features s g b =
@@ -162,3 +182,7 @@ query-features s g b =
       distinct = distinct-features s;
       small = each-of (λ (f : ℕ). f < featureSpan) (featuresOf s) 0 (λ i h. feature-fits s b i);
     }
+
+-- and its features sorted, as the code has them
+pub features-asked : (s : List ℕ) → judgeOf s ≡ 0 → ((j : ℕ) → getD s j 0 < characters) → Asked (sortOf (featuresOf s))
+features-asked s g b = asked-of (featuresOf s) (query-features s g b) (size-most s)

@@ -3,18 +3,17 @@
 ghost use mathlib.Core.Path.{_≡_};
 ghost use mathlib.Core.List.{List, _++_, map};
 ghost use Prim.Native.Nat.{ℕ, _≤_, _<_, min};
-ghost use lib.ListN.{length, getD, drop, replicate};
+ghost use lib.ListN.{length, getD, drop};
 ghost use mathlib.Core.Bool.{true};
 ghost use Rattle.likeness.specs.Measures.{goodMeasure, goodThreshold};
 ghost use Rattle.laws.specs.Sort.{sortOf};
 ghost use Rattle.names.specs.Names.{judgeOf};
 ghost use Rattle.names.specs.Features.{featuresOf};
-ghost use Rattle.index.specs.Good.{goodOf, Good, mostNames, idsIn};
+ghost use Rattle.names.specs.Set.{filled};
+ghost use Rattle.index.specs.Good.{goodOf, Good, idsIn};
 ghost use Rattle.words.specs.Words.{nameCount, nameId, nameSize};
-ghost use Rattle.sizes.specs.Tables.{Covered};
 ghost use Rattle.search.specs.Answers.{questionOf, over, asColumns, Searched};
 ghost use Rattle.search.specs.Places.{placesIn};
-use candidates::Spent;
 use names::FeatureSet;
 
 // What a search answers. specs/Answers.antt sets out the number and the values of each case.
@@ -95,35 +94,16 @@ fn write_rows(
 
 // ---- the whole search
 
-// The query's features sorted once, and all sizes. The answers, by place, come as 0.
-fn cover_sizes(
-    query: &[u8],
-    measure: u8,
-    p: u16,
-    q: u16,
-    allowance: usize,
-    words: &[u32],
-    ids: &[u32],
-    answers: &mut [u32],
-) -> Spent
-    requires { ⌜ Good (now words) × (now ids ≡ idsIn (now words)) × (judgeOf (now query) ≡ 0) × (goodMeasure measure ≡ true) × (now answers ≡ replicate mostNames 0) ⌝ }
-    ensures { λ r. ⌜ Covered (now (words .entry)) measure p q (sortOf (featuresOf (now (query .entry)))) allowance (now (answers .exit)) (r .past) (r .touches) ⌝ }
+// The query's features, in ascending order.
+fn sorted_features(query: &[u8]) -> FeatureSet
+    ensures { λ r. ⌜ r ≡ filled (sortOf (featuresOf (now (query .entry)))) ⌝ }
 {
     let set = names::features(query);
     let x = set.len;
-    let mut features = set.items;
+    let mut items = set.items;
     let mut spare = [0u64; FeatureSet::CAPACITY];
-    sorting::sort(&mut features[..x], &mut spare[..x]);
-    sizes::all_sizes(
-        words,
-        ids,
-        &features[..x],
-        measure,
-        p,
-        q,
-        allowance,
-        answers,
-    )
+    sorting::sort(&mut items[..x], &mut spare[..x]);
+    FeatureSet { items, len: x }
 }
 
 // The smaller of two rooms.
@@ -151,15 +131,17 @@ fn run(
     let n = words::name_count(words);
     let mut table = [0u32; index::MOST_NAMES];
     name_ids(words, &mut table);
+    let set = sorted_features(query);
+    let x = set.len;
+    let features = set.items;
+    let leasts = sizes::least_counts(words, measure, p, q, x as u8);
     let mut answers = [0u32; index::MOST_NAMES];
-    let spent = cover_sizes(
-        query,
-        measure,
-        p,
-        q,
-        allowance as usize,
+    let spent = sizes::all_sizes(
         words,
         &table[..n],
+        &features[..x],
+        &leasts,
+        allowance as usize,
         &mut answers,
     );
     if spent.past {

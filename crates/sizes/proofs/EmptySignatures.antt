@@ -10,7 +10,7 @@ use native.Mathlib.Nat.{eq-or-lt-of-le}
 use native.Mathlib.Omega.{arith}
 use lib.ListN.{length, getD, take}
 use lib.Dec.{ltb, leb, eqb}
-use borrow.Author.Tests.{lt-ltb, le-ltb, ltb-true}
+use borrow.Author.Tests.{lt-ltb, le-ltb, le-leb, ltb-true}
 use Rattle.laws.specs.Lists.{Ascending, tabulate, countOf, sumOf}
 use Rattle.laws.specs.Below.{sumBelow, countBelow}
 use Rattle.laws.specs.Sort.{sortOf}
@@ -25,13 +25,13 @@ use Rattle.words.specs.Words.{nameCount, nameId, nameSize}
 use Rattle.index.specs.Good.{mostNames, idsIn}
 use Rattle.lists.specs.Lists.{listIn}
 use Rattle.candidates.specs.Method.{heldBy, signatures, signaturePostings, remains, laterCount}
-use Rattle.candidates.specs.Tables.{remainsAt, remainTable, kept}
+use Rattle.candidates.specs.Tables.{noCounts, remainsAt, remainTable, kept}
 use Rattle.candidates.proofs.Candidates.{no-holder, unmet}
 use Rattle.sizes.specs.Method.{listsFor, remaining, touchesAt}
-use Rattle.sizes.specs.Tables.{smallKey, filledOf, Asked}
+use Rattle.sizes.specs.Tables.{smallKey, filledOf, touchesFor, answersFor, Sized, Asked}
 use Rattle.sizes.proofs.Laws.{length-lists}
 use Rattle.sizes.proofs.Order.{smallKeys, small-ascending, length-small, kth-key}
-use Rattle.sizes.proofs.Size.{asked-query, asked-sorted}
+use Rattle.sizes.proofs.Size.{asked-query, asked-sorted, sized-idle}
 
 -- ---- plain lists
 
@@ -114,7 +114,7 @@ module _ (w : List ℕ) (y : ℕ) (f : List ℕ) (a : Asked f) (t : ℕ) (some :
   gone d id = unmet (listsFor w y f) t id (no-holder (signatures (length (listsFor w y f)) t) (listsFor w y f) id empty) d
 
   -- it costs nothing
-  pub idle-touches : touchesAt w y (listsFor w y f) t ≡ 0
+  idle-touches : touchesAt w y (listsFor w y f) t ≡ 0
   unfolding touchesAt signaturePostings remaining
   idle-touches =
       let ls : List (List ℕ) = listsFor w y f in
@@ -130,7 +130,7 @@ module _ (w : List ℕ) (y : ℕ) (f : List ℕ) (a : Asked f) (t : ℕ) (some :
       omega arith
 
   -- and has no answer
-  pub idle-answers : (before : List ℕ) → length before ≡ mostNames
+  idle-answers : (before : List ℕ) → length before ≡ mostNames
       → before ≡ kept (remainTable (idsIn w) (listsFor w y f) t (laterCount (listsFor w y f) t)) before
   unfolding kept remainTable remainsAt
   idle-answers before e =
@@ -145,3 +145,8 @@ module _ (w : List ℕ) (y : ℕ) (f : List ℕ) (a : Asked f) (t : ℕ) (some :
       ∙ ap (λ (b : Bool). cond b (heldBy (take (signatures (length ls) t + d) ls) (getD (idsIn w) i 0)) 0)
       (and-false-right (ltb i (length (idsIn w))) (remains ls t d (getD (idsIn w) i 0)) (gone d (getD (idsIn w) i 0))) in
       sym (ap (λ (v : ℕ). cond (leb 1 v) v (getD before i 0)) z))
+
+  pub sized-short : (budget : ℕ) (before counts : List ℕ) → length before ≡ mostNames → counts ≡ noCounts → Sized w y f t budget before before counts false 0
+  unfolding touchesFor answersFor
+  sized-short budget before counts n clear =
+      sized-idle w y f t budget before counts (rw (le-leb 1 t some) idle-touches) (rw (le-leb 1 t some) (idle-answers before n)) clear

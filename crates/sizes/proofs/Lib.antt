@@ -5,4 +5,6 @@ pub mod Order
 pub mod Size
 pub mod EmptySignatures
 pub mod Answering
+pub mod Upward
+pub mod Leasts
 pub mod Total

@@ -1,23 +1,23 @@
--- Laws of which sizes the names have. Cited by the proofs of `sizes_present` and `size_step`.
+-- Laws of which sizes the names have. Cited by the proofs of `sizes_present` and `least_counts`.
 -- Assumes nothing.
 use mathlib.Core.Path.{_≡_, refl, sym, ap, _∙_}
-use mathlib.Core.Logic.{⊎-elim}
-use mathlib.Core.Bool.{Bool, cond}
+use mathlib.Core.Bool.{Bool, true, false, cond, _&&_}
 use mathlib.Core.List.{List}
-use Prim.Native.Nat.{ℕ, _+_, _≤_, _<_}
+use Prim.Native.Nat.{ℕ, _+_, _<_}
 use native.Mathlib.Omega.{arith}
-use lib.ListN.{set, replicate, length-replicate, getD-replicate}
+use lib.ListN.{getD, set, replicate, length-replicate, getD-replicate}
 use lib.Dec.{eqb, leb}
 use borrow.Author.Tests.{eq-eqb, ne-eqb, le-leb}
 use Rattle.laws.specs.Lists.{tabulate}
 use Rattle.laws.specs.Below.{countBelow, sumBelow}
 use Rattle.laws.proofs.Lists.{length-tabulate, getD-tabulate}
 use Rattle.laws.proofs.Below.{sum-below-step}
-use Rattle.laws.proofs.Order.{le-or-lt}
 use Rattle.laws.proofs.Tables.{table-of, table-set}
+use Rattle.likeness.specs.Sizes.{isSearched}
+use Rattle.likeness.specs.Least.{leastCount}
 use Rattle.words.specs.Words.{nameCount, nameSize}
-use Rattle.sizes.specs.Method.{namesOf}
-use Rattle.sizes.specs.Tables.{presentAt}
+use Rattle.sizes.specs.Method.{namesOf, sizesEnd}
+use Rattle.sizes.specs.Tables.{presentAt, leastAt}
 
 -- ---- how many of the first k names have each size
 
@@ -55,16 +55,17 @@ pub present-all : (w : List ℕ) (n : ℕ) → n ≡ nameCount w → (y : ℕ) �
 unfolding presentBy presentAt
 present-all w n e y = ap (λ (k : ℕ). cond (leb 1 (sizesOf w k y)) 1 0) e
 
--- no name has a size that is not present
-pub present-none : (w : List ℕ) (y : ℕ) → presentAt w y ≡ 0 → namesOf w y ≡ 0
+-- a name has a size exactly if it is present
+present-test : (w : List ℕ) (y : ℕ) → leb 1 (presentAt w y) ≡ leb 1 (namesOf w y)
 unfolding presentAt
-present-none w y e =
-    ⊎-elim
-    (λ (h : namesOf w y ≤ 0). (let q : namesOf w y ≡ 0 = omega arith in q))
-    (λ (h : 0 < namesOf w y). let z : _≡_ {A = ℕ} 1 0 = sym (ap (λ (b : Bool). cond b 1 0) (le-leb 1 (namesOf w y) (omega arith))) ∙ e in absurd (omega arith))
-    (le-or-lt (namesOf w y) 0)
+present-test w y = by-test (leb 1 (namesOf w y))
+  where
+    by-test : (b : Bool) → leb 1 (cond b 1 0) ≡ b
+    by-test true = refl
+    by-test false = refl
 
--- and where no name has a size it is not present
-pub present-of-none : (w : List ℕ) (y : ℕ) → namesOf w y ≡ 0 → presentAt w y ≡ 0
-unfolding presentAt
-present-of-none w y e = ap (λ (c : ℕ). cond (leb 1 c) 1 0) e
+-- so the least count of a size is known from that
+pub least-present : (w : List ℕ) (m p q x y : ℕ) (present : List ℕ) → present ≡ tabulate (presentAt w) sizesEnd → y < sizesEnd
+    → cond (leb 1 (getD present y 0) && isSearched m p q x y) (leastCount m p q x y) 0 ≡ leastAt w m p q x y
+unfolding leastAt
+least-present w m p q x y present e h = rw (e, getD-tabulate (presentAt w) sizesEnd y 0 h, present-test w y)

@@ -1,16 +1,16 @@
--- One size, as the code has it, is one size of the method: the lists cut out of the words, the names' ids, and the touches. Cited by the
--- proof of `one_size`, by EmptySignatures.antt and Answering.antt, and by `search`.
+-- One size, as the code has it, is one size of the method: the lists cut out of the words, the names' ids, the touches, and what it comes
+-- to. Cited by the proof of `one_size`, by EmptySignatures.antt and Answering.antt, and by `search`.
 -- Assumes nothing.
 use mathlib.Core.Path.{_≡_, refl, sym, ap, ap₂, _∙_}
 use mathlib.Core.Logic.{⊎-elim}
-use mathlib.Core.Bool.{Bool, true, false, cond, _&&_}
+use mathlib.Core.Bool.{Bool, true, false, cond, _&&_, true≢false}
 use mathlib.Core.List.{List, [], _∷_, _++_}
 use Prim.Native.Nat.{ℕ, zero, suc, _+_, _-_, _*_, _/_, _%_, _≤_, _<_}
 use native.Mathlib.Omega.{arith}
 use lib.ListN.{length, getD, take, drop}
 use lib.Seq.{ext-getD}
 use lib.Dec.{eqb, ltb}
-use borrow.Author.Tests.{lt-ltb, le-ltb, ltb-true, eq-eqb, eqb-true}
+use borrow.Author.Tests.{lt-ltb, le-ltb, le-leb, ltb-true, eq-eqb, eqb-true}
 use Rattle.laws.specs.Lists.{member, Ascending, tabulate, countOf}
 use Rattle.laws.specs.Below.{sumBelow, countBelow}
 use Rattle.laws.specs.Each.{Each}
@@ -31,11 +31,12 @@ use Rattle.lists.specs.Lists.{listIn, spanIn}
 use Rattle.lists.proofs.Laws.{good-named, good-ascending, span-words}
 use Rattle.lists.proofs.Spans.{span-within, span-count}
 use Rattle.candidates.specs.Method.{signatures, signaturePostings, remains, laterCount, postingsOf}
-use Rattle.candidates.specs.Tables.{cutAt, cutLists, Readable, remainsAt, laterTouches}
+use Rattle.candidates.specs.Tables.{noCounts, cutAt, cutLists, Readable, remainsAt, laterTouches, Walked}
 use Rattle.candidates.proofs.Candidates.{remains-met}
 use Rattle.candidates.proofs.Counts.{length-cut, getD-cut}
+use Rattle.candidates.proofs.Spending.{spend-within}
 use Rattle.sizes.specs.Method.{listsFor, remaining, touchesAt}
-use Rattle.sizes.specs.Tables.{startOf, smallKey, Asked}
+use Rattle.sizes.specs.Tables.{startOf, smallKey, touchesFor, answersFor, Sized, Asked}
 use Rattle.sizes.proofs.Laws.{Query, length-lists, held-features}
 use Rattle.sizes.proofs.Work.{list-length}
 use Rattle.sizes.proofs.Order.{smallKeys, length-small, kth-key}
@@ -104,7 +105,7 @@ module _ (w : List ℕ) (good : Good w) (y : ℕ) (f : List ℕ) (a : Asked f) (
       let n : getD keys k 0 / 256 ≡ spanIn w y g .count = e .2 ∙ sym (span-count w good y g) in
       ap₂ (λ (c s : ℕ). take c (drop s w)) n (begin (getD keys k 0 % 256) (e .0)) ∙ span-words w y g
 
-  pub cut-lists : cutLists w keys starts ≡ listsFor w y f
+  cut-lists : cutLists w keys starts ≡ listsFor w y f
   cut-lists =
       let n = length-cut w keys starts in
       let m = length-lists w y f in
@@ -197,10 +198,45 @@ module _ (w : List ℕ) (good : Good w) (y : ℕ) (f : List ℕ) (a : Asked f) (
       ∙ ap₂ (λ (n l : ℕ). countBelow n (λ (i : ℕ). ltb i l && u i)) e (sym (length-ids w))
 
   -- the touches of the size, as the code counts them
-  pub touches-at : touchesAt w y (listsFor w y f) t
+  touches-at : touchesAt w y (listsFor w y f) t
       ≡ postingsOf (listsFor w y f) (signatures (length (listsFor w y f)) t)
       + laterTouches (idsIn w) (listsFor w y f) t (laterCount (listsFor w y f) t)
   unfolding touchesAt signaturePostings laterTouches
   touches-at =
       ap (λ (n : ℕ). postingsOf (listsFor w y f) (signatures (length (listsFor w y f)) t) + n)
       (sum-below-ext (laterCount (listsFor w y f) t) (remaining w y (listsFor w y f) t) (λ (e : ℕ). countBelow mostNames (remainsAt (idsIn w) (listsFor w y f) t e)) (λ d h. remaining-at d))
+
+-- ---- what a size comes to
+
+-- nothing, where it costs nothing and has no answer
+pub sized-idle : (w : List ℕ) (y : ℕ) (f : List ℕ) (t budget : ℕ) (before counts : List ℕ) → touchesFor w y f t ≡ 0 → before ≡ answersFor w y f t before
+    → counts ≡ noCounts → Sized w y f t budget before before counts false 0
+sized-idle w y f t budget before counts free same clear =
+    record {
+      spent = spend-within (touchesFor w y f t) budget 0 (sym free) (omega arith);
+      answers = λ e. same;
+      cleared = λ e. clear;
+      none = λ e. absurd (true≢false (sym e));
+    }
+
+-- as where its least count is 0
+pub sized-none : (w : List ℕ) (y : ℕ) (f : List ℕ) (t budget : ℕ) (before counts : List ℕ) → t ≡ 0 → counts ≡ noCounts
+    → Sized w y f t budget before before counts false 0
+unfolding touchesFor answersFor
+sized-none w y f t budget before counts z clear = sized-idle w y f t budget before counts (rw z) (rw z) clear
+
+-- what both phases came to with its lists, where its least count is not 0
+pub sized-walked : (w : List ℕ) (good : Good w) (y : ℕ) (f : List ℕ) (a : Asked f) (keys starts : List ℕ)
+    (in-order : keys ≡ sortOf (tabulate (smallKey w y f) (length f)))
+    (begin : (j : ℕ) → j < length f → getD starts j 0 ≡ startOf w y f j) (room : length f ≤ length starts)
+    {ids : List ℕ} {t budget : ℕ} {before after counts : List ℕ} {past : Bool} {touches : ℕ}
+    → ids ≡ idsIn w → 1 ≤ t → Walked ids (cutLists w keys starts) t budget before after counts past touches → Sized w y f t budget before after counts past touches
+unfolding touchesFor answersFor
+sized-walked w good y f a keys starts in-order begin room {t = t} e low walked =
+    let v = rw (e, cut-lists w good y f a keys starts in-order begin room) at walked in
+    record {
+      spent = rw (le-leb 1 t low, touches-at w good y f a t) (v .spent);
+      answers = λ q. rw (le-leb 1 t low) (v .answers q);
+      cleared = v .cleared;
+      none = v .none;
+    }

@@ -1,23 +1,24 @@
-// The sizes of a counted search: which sizes the names have, the lists of a size in order, one size, and all of them upward. Over a good
-// index, its names' ids and features in order. The rule: docs/RULE.md, "The counted search"; the definitions: specs/.
+// The sizes of a counted search: the least count of each, the lists of a size in order, one size, and all of them upward by a table of least
+// counts. Over a good index, its names' ids and features in order. The rule: docs/RULE.md, "The counted search"; the definitions: specs/.
 ghost use mathlib.Core.Path.{_≡_};
 ghost use mathlib.Core.List.{_++_};
 ghost use Prim.Native.Nat.{ℕ, _≤_, _<_};
-ghost use lib.ListN.{length, getD, drop};
+ghost use lib.ListN.{length, getD, drop, replicate};
 ghost use lib.Dec.{leb};
-ghost use mathlib.Core.Bool.{true};
-ghost use Rattle.likeness.specs.Measures.{goodMeasure};
+ghost use mathlib.Core.Bool.{true, cond, _&&_};
+ghost use Rattle.likeness.specs.Sizes.{isSearched};
+ghost use Rattle.likeness.specs.Least.{leastCount};
 ghost use Rattle.laws.specs.Lists.{tabulate};
 ghost use Rattle.laws.specs.Sort.{sortOf};
 ghost use Rattle.names.specs.Features.{mostFeatures};
 ghost use Rattle.index.specs.Good.{Good, mostNames, idsIn};
 ghost use Rattle.sizes.specs.Method.{sizesEnd};
-ghost use Rattle.sizes.specs.Tables.{presentAt, startOf, smallKey, filledOf, Asked, Lent, Sized, answersTable, Stepped, Covered};
+ghost use Rattle.sizes.specs.Tables.{presentAt, leastsOf, Reachable, startOf, smallKey, filledOf, Asked, Lent, Sized, Covered};
 use candidates::Spent;
 use names::FeatureSet;
 
 // The sizes of names are below this.
-const SIZES_END: usize = FeatureSet::CAPACITY + 1;
+pub const SIZES_END: usize = FeatureSet::CAPACITY + 1;
 
 // Which sizes the names have: 1 at each of them.
 fn sizes_present(words: &[u32]) -> [u32; SIZES_END]
@@ -33,6 +34,36 @@ fn sizes_present(words: &[u32]) -> [u32; SIZES_END]
         i += 1;
     }
     table
+}
+
+// ---- the least counts
+
+// The least count of size y for a query of x features, where `present` is 1 if a name has the size; 0 where none has, or it isn't searched.
+fn least_of(present: u32, measure: u8, p: u16, q: u16, x: u8, y: u8) -> u32
+    ensures { λ r. ⌜ r ≡ cond (leb 1 present && isSearched measure p q x y) (leastCount measure p q x y) 0 ⌝ }
+{
+    if present == 0 {
+        return 0;
+    }
+    if !likeness::searched(measure, p, q, x, y) {
+        return 0;
+    }
+    likeness::least_count(measure, p, q, x, y) as u32
+}
+
+// The least count of each size for a query of x features; 0 where no name has the size, or it isn't searched.
+pub fn least_counts(words: &[u32], measure: u8, p: u16, q: u16, x: u8) -> [u32; SIZES_END]
+    requires { ⌜ Good (now words) ⌝ }
+    ensures { λ r. ⌜ r ≡ leastsOf (now (words .entry)) measure p q x ⌝ }
+{
+    let present = sizes_present(words);
+    let mut leasts = [0u32; SIZES_END];
+    let mut y = 0;
+    while y < SIZES_END {
+        leasts[y] = least_of(present[y], measure, p, q, x, y as u8);
+        y += 1;
+    }
+    leasts
 }
 
 // ---- the lists of a size
@@ -90,7 +121,7 @@ fn order_lists(
     true
 }
 
-// One size: its lists in order, then the two phases.
+// One size: its lists in order, then the two phases; nothing where the least count is 0.
 fn one_size(
     words: &[u32],
     ids: &[u32],
@@ -105,10 +136,16 @@ fn one_size(
     met: &mut [usize],
     answers: &mut [u32],
 ) -> Spent
-    requires { ⌜ Good (now words) × (now ids ≡ idsIn (now words)) × Asked (now features) × (1 ≤ least) × (least ≤ length (now features)) × (length (now answers) ≡ mostNames) ⌝ }
+    requires { ⌜ Good (now words) × (now ids ≡ idsIn (now words)) × Asked (now features) × (least ≤ length (now features)) × (length (now answers) ≡ mostNames) ⌝ }
     requires { ⌜ Lent (now features) (now starts) (now keys) (now spare) (now counts) (now met) ⌝ }
     ensures { λ r. ⌜ Sized (now (words .entry)) size (now (features .entry)) least budget (now (answers .entry)) (now (answers .exit)) (now (counts .exit)) (r .past) (r .touches) ⌝ }
 {
+    if least == 0 {
+        return Spent {
+            past: false,
+            touches: 0,
+        };
+    }
     if !order_lists(words, features, size, least, starts, keys, spare) {
         return Spent {
             past: false,
@@ -130,67 +167,12 @@ fn one_size(
 
 // ---- all sizes
 
-// Size y, where `present` is 1 if a name has it; nothing is done where none has or the size isn't searched.
-fn size_step(
-    words: &[u32],
-    ids: &[u32],
-    features: &[u64],
-    measure: u8,
-    p: u16,
-    q: u16,
-    present: u32,
-    y: usize,
-    budget: usize,
-    starts: &mut [usize],
-    keys: &mut [u64],
-    spare: &mut [u64],
-    counts: &mut [u32],
-    met: &mut [usize],
-    answers: &mut [u32],
-) -> Spent
-    requires { ⌜ Good (now words) × (now ids ≡ idsIn (now words)) × Asked (now features) × (goodMeasure measure ≡ true) × (y < sizesEnd) × (present ≡ presentAt (now words) y) × (now answers ≡ answersTable (now words) measure p q (now features) y) ⌝ }
-    requires { ⌜ Lent (now features) (now starts) (now keys) (now spare) (now counts) (now met) ⌝ }
-    ensures { λ r. ⌜ Stepped (now (words .entry)) measure p q (now (features .entry)) y budget (now (answers .exit)) (now (counts .exit)) (r .past) (r .touches) ⌝ }
-{
-    if present == 0 {
-        return Spent {
-            past: false,
-            touches: 0,
-        };
-    }
-    let x = features.len() as u8;
-    let size = y as u8;
-    if !likeness::searched(measure, p, q, x, size) {
-        return Spent {
-            past: false,
-            touches: 0,
-        };
-    }
-    let least = likeness::least_count(measure, p, q, x, size) as usize;
-    one_size(
-        words,
-        ids,
-        features,
-        y as u32,
-        least,
-        budget,
-        starts,
-        keys,
-        spare,
-        counts,
-        met,
-        answers,
-    )
-}
-
-// All sizes upward, as long as their touches are within the allowance, over tables that are lent.
+// All sizes upward, each with its least count, as long as their touches are within the allowance; over tables that are lent.
 fn each_size(
     words: &[u32],
     ids: &[u32],
     features: &[u64],
-    measure: u8,
-    p: u16,
-    q: u16,
+    leasts: &[u32],
     allowance: usize,
     starts: &mut [usize],
     keys: &mut [u64],
@@ -199,23 +181,20 @@ fn each_size(
     met: &mut [usize],
     answers: &mut [u32],
 ) -> Spent
-    requires { ⌜ Good (now words) × (now ids ≡ idsIn (now words)) × Asked (now features) × (goodMeasure measure ≡ true) × (now answers ≡ answersTable (now words) measure p q (now features) 0) ⌝ }
+    requires { ⌜ Good (now words) × (now ids ≡ idsIn (now words)) × Asked (now features) × Reachable (now features) (now leasts) × (now answers ≡ replicate mostNames 0) ⌝ }
     requires { ⌜ Lent (now features) (now starts) (now keys) (now spare) (now counts) (now met) ⌝ }
-    ensures { λ r. ⌜ Covered (now (words .entry)) measure p q (now (features .entry)) allowance (now (answers .exit)) (r .past) (r .touches) ⌝ }
+    ensures { λ r. ⌜ Covered (now (words .entry)) (now (leasts .entry)) (now (features .entry)) allowance (now (answers .exit)) (r .past) (r .touches) ⌝ }
 {
-    let present = sizes_present(words);
     let mut touches = 0;
     let mut y = 0;
-    while y < SIZES_END {
-        let spent = size_step(
+    while y < leasts.len() {
+        let least = leasts[y] as usize;
+        let spent = one_size(
             words,
             ids,
             features,
-            measure,
-            p,
-            q,
-            present[y],
-            y,
+            y as u32,
+            least,
             allowance - touches,
             starts,
             keys,
@@ -239,19 +218,17 @@ fn each_size(
     }
 }
 
-// All sizes, over tables that are set to 0 once for all of them.
+// All sizes, over tables that are set to 0 once for all of them. The answers, by place, come as 0.
 pub fn all_sizes(
     words: &[u32],
     ids: &[u32],
     features: &[u64],
-    measure: u8,
-    p: u16,
-    q: u16,
+    leasts: &[u32],
     allowance: usize,
     answers: &mut [u32],
 ) -> Spent
-    requires { ⌜ Good (now words) × (now ids ≡ idsIn (now words)) × Asked (now features) × (goodMeasure measure ≡ true) × (now answers ≡ answersTable (now words) measure p q (now features) 0) ⌝ }
-    ensures { λ r. ⌜ Covered (now (words .entry)) measure p q (now (features .entry)) allowance (now (answers .exit)) (r .past) (r .touches) ⌝ }
+    requires { ⌜ Good (now words) × (now ids ≡ idsIn (now words)) × Asked (now features) × Reachable (now features) (now leasts) × (now answers ≡ replicate mostNames 0) ⌝ }
+    ensures { λ r. ⌜ Covered (now (words .entry)) (now (leasts .entry)) (now (features .entry)) allowance (now (answers .exit)) (r .past) (r .touches) ⌝ }
 {
     let x = features.len();
     let mut starts = [0usize; FeatureSet::CAPACITY];
@@ -263,9 +240,7 @@ pub fn all_sizes(
         words,
         ids,
         features,
-        measure,
-        p,
-        q,
+        leasts,
         allowance,
         &mut starts,
         &mut keys[..x],

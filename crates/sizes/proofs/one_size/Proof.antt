@@ -1,29 +1,69 @@
--- `one_size` meets its contract: where too few lists have ids nothing is due; otherwise the lists in order are the method's, and so are the
--- touches of the two phases.
-use mathlib.Core.Path.{_≡_, refl, sym, ap, ap₂, subst, _∙_}
-use mathlib.Core.Bool.{false, true≢false}
+-- `one_size` meets its contract: where the least count is 0, or too few lists have ids, nothing is due; otherwise the lists in order are the
+-- method's, and so are the touches of the two phases.
+use mathlib.Core.Path.{_≡_, sym, subst, _∙_}
 use mathlib.Core.List.{List}
-use Prim.Native.Nat.{ℕ, _+_, _≤_, _<_}
+use Prim.Native.Nat.{ℕ, _≤_, _<_}
 use native.Mathlib.Omega.{arith}
 use borrow.Author.Needs.{needs}
 use borrow.Author.Tests.{leb-false, not-true, not-false}
 use lib.ListN.{length, getD}
-use Rattle.laws.specs.Lists.{Ascending}
-use Rattle.index.specs.Good.{mostNames, idsIn}
-use Rattle.candidates.specs.Method.{signatures, laterCount, postingsOf}
-use Rattle.candidates.specs.Tables.{Readable, cutLists, laterTouches, remainTable, kept, Walked}
-use Rattle.sizes.specs.Method.{listsFor, touchesAt}
-use Rattle.sizes.specs.Tables.{filledOf, Asked, Sized}
-use Rattle.candidates.proofs.Spending.{spend-within}
-use Rattle.sizes.proofs.Size.{ids-few, ids-rise, length-keys, cut-lists, cut-readable, touches-at}
-use Rattle.sizes.proofs.EmptySignatures.{idle-touches, idle-answers}
+use Rattle.laws.specs.Lists.{Ascending, tabulate}
+use Rattle.laws.specs.Sort.{sortOf}
+use Rattle.index.specs.Good.{mostNames}
+use Rattle.candidates.specs.Tables.{Readable}
+use Rattle.sizes.specs.Tables.{startOf, smallKey, filledOf}
+use Rattle.sizes.proofs.Size.{ids-few, ids-rise, length-keys, cut-readable, sized-none, sized-walked}
+use Rattle.sizes.proofs.EmptySignatures.{sized-short}
 use Rattle.sizes.proofs.one_size.Statement.{statement}
 use Rattle.sizes.proofs.one_size.Tie as tie
 
+-- the function's entry, and the place after the lists were found, as seen from each test
+abbrev start : tie.Else1 → tie.Start
+start c = c .before .before .before .before .before .before .before .before .before .before
+
+abbrev found : tie.Else2 → tie.After-order-lists
+found c = c .before .before .before .before .before .before .before
+
+abbrev first : tie.After-order-lists → tie.Else1
+first c = c .before .before .before .before
+
+some : (c : tie.Else1) → 1 ≤ start c .args .least
+some c = let h = c .if1 .left in omega arith
+
+-- the lists in order, as they were found: their keys, and where they start
+abbrev keys : tie.Else2 → List ℕ
+keys c = found c .order-lists .last .1 .1 .1 .1 .1 .0
+
+abbrev starts : tie.Else2 → List ℕ
+starts c = found c .order-lists .last .1 .1 .1 .1 .0
+
+abbrev entry : tie.Else2 → tie.Start
+entry c = start (first (found c))
+
+pub record Ordered (c : tie.Else2) : Type 0 where
+  pub sorted : let a = entry c .args in keys c ≡ sortOf (tabulate (smallKey (a .words .now) (a .size) (a .features .now)) (length (a .features .now)))
+  pub begin : let a = entry c .args in (j : ℕ) → j < length (a .features .now) → getD (starts c) j 0 ≡ startOf (a .words .now) (a .size) (a .features .now) j
+  pub room : length (entry c .args .features .now) ≤ length (starts c)
+
+ordered : (c : tie.Else2) → Ordered c
+ordered c =
+    let b = entry c in
+    let o = found c .order-lists in
+    let u = o .ensures .1 (not-false _ (c .if2 .left)) in
+    record {
+      sorted = u .0;
+      begin = u .1;
+      room = (let q = o .kept .1 .1 .1 .1 .0 in let r = b .pre .1 .starting in let p = b .pre .0 .2 .few in omega arith);
+    }
+
+returns : tie.Need-returns
+returns c =
+    let b = c .before .before .before .before .before .before .before .before .before .before in
+    let a = b .args in
+    sized-none (a .words .now) (a .size) (a .features .now) (a .least) (a .budget) (a .answers .now) (a .counts .now) (c .if1 .taken) (b .pre .1 .cleared)
+
 order-lists-requires : tie.Need-order-lists-requires
-order-lists-requires c κs =
-    let b = c .before .before .before .before .before .before .before .before .before .before .before .before in
-    (b .pre .0 .0, b .pre .0 .2 .few, b .pre .1 .starting, b .pre .1 .keyed, b .pre .1 .spared)
+order-lists-requires c κs = search needs
 
 same-length : tie.Need-same-length
 same-length c = search needs
@@ -34,43 +74,32 @@ same-length-2 c = search needs
 same-length-3 : tie.Need-same-length-3
 same-length-3 c = search needs
 
-returns : tie.Need-returns
-returns c =
-    let b = c .before .before .before .before .before .before .before .before .before .before .before .before .before .before .before .before .before .before .before .before in
-    let o = c .before .before .before .before .before .before .before .order-lists in
-    let w = b .args .words .now in
-    let y = b .args .size in
-    let f = b .args .features .now in
-    let few = leb-false (b .args .least) (filledOf w y f (length f)) (sym (o .ensures .0) ∙ not-true _ (c .if1 .taken)) in
-    let z = idle-touches w y f (b .pre .0 .2) (b .args .least) (b .pre .0 .3) (b .pre .0 .4) few in
-    record {
-      spent = spend-within (touchesAt w y (listsFor w y f) (b .args .least)) (b .args .budget) 0 (sym z) (omega arith);
-      answers = λ e. idle-answers w y f (b .pre .0 .2) (b .args .least) (b .pre .0 .3) (b .pre .0 .4) few (b .args .answers .now) (b .pre .0 .5);
-      cleared = λ e. b .pre .1 .cleared;
-      none = λ q. absurd (true≢false (sym q));
-    }
+returns-2 : tie.Need-returns-2
+returns-2 c =
+    let o = c .before .before .before .before .before .before .before in
+    let b = start (first o) in
+    let a = b .args in
+    let few = leb-false (a .least) (filledOf (a .words .now) (a .size) (a .features .now) (length (a .features .now))) (sym (o .order-lists .ensures .0) ∙ not-true _ (c .if2 .taken)) in
+    sized-short (a .words .now) (a .size) (a .features .now) (b .pre .0 .2) (a .least) (some (first o)) (b .pre .0 .3) few (a .budget) (a .answers .now) (a .counts .now) (b .pre .0 .4) (b .pre .1 .cleared)
 
 walk-lists-requires : tie.Need-walk-lists-requires
 walk-lists-requires c κs =
-    let b = c .before .before .before .before .before .before .before .before .before .before .before .before .before .before .before .before .before .before .before .before .before .before .before .before .before in
-    let f = b .args .features .now in
-    let o = c .before .before .before .before .before .before .before .before .before .before .before .before .order-lists in
-    let keys = o .last .1 .1 .1 .1 .1 .0 in
-    let starts = o .last .1 .1 .1 .1 .0 in
-    let u = o .ensures .1 (not-false _ (c .before .before .before .before .before .if1 .left)) in
-    let room : length f ≤ length starts = (let q = o .kept .1 .1 .1 .1 .0 in let r = b .pre .1 .starting in let p = b .pre .0 .2 .few in omega arith) in
+    let d = c .before .before .before .before .before in
+    let o = ordered d in
+    let b = entry d in
     let w = b .args .words .now in
-    let y = b .args .size in
-    let e : b .args .ids .now ≡ idsIn w = b .pre .0 .1 in
-    let l = length-keys w (b .pre .0 .0) y f (b .pre .0 .2) keys starts (u .0) (u .1) room in (
+    let good = b .pre .0 .0 in
+    let asked = b .pre .0 .2 in
+    let same = sym (b .pre .0 .1) in
+    let n = length-keys w good (b .args .size) (b .args .features .now) asked (keys d) (starts d) (o .sorted) (o .begin) (o .room) in (
       (
-        subst (λ (l : List ℕ). length l ≤ mostNames) (sym e) (ids-few w (b .pre .0 .0)),
-        subst Ascending (sym e) (ids-rise w (b .pre .0 .0)),
-        rw e (cut-readable w (b .pre .0 .0) y f (b .pre .0 .2) keys starts (u .0) (u .1) room),
-        (let q = b .pre .0 .2 .few in omega arith),
-        b .pre .0 .3,
-        (let q = b .pre .0 .4 in omega arith),
-        b .pre .0 .5,
+        subst (λ (l : List ℕ). length l ≤ mostNames) same (ids-few w good),
+        subst Ascending same (ids-rise w good),
+        subst (λ (l : List ℕ). Readable w l (keys d) (starts d)) same (cut-readable w good (b .args .size) (b .args .features .now) asked (keys d) (starts d) (o .sorted) (o .begin) (o .room)),
+        (let q = asked .few in omega arith),
+        some (first (found d)),
+        (let q = b .pre .0 .3 in omega arith),
+        b .pre .0 .4,
       ),
       (b .pre .1 .cleared, b .pre .1 .meeting),
     )
@@ -93,40 +122,25 @@ same-length-8 c = search needs
 same-length-9 : tie.Need-same-length-9
 same-length-9 c = search needs
 
-returns-2 : tie.Need-returns-2
-returns-2 c =
-    let b = c .before .before .before .before .before .before .before .before .before .before .before .before .before .before .before .before .before .before .before .before .before .before .before .before .before .before .before .before .before .before .before .before in
-    let f = b .args .features .now in
-    let o = c .before .before .before .before .before .before .before .before .before .before .before .before .before .before .before .before .before .before .before .order-lists in
-    let keys = o .last .1 .1 .1 .1 .1 .0 in
-    let starts = o .last .1 .1 .1 .1 .0 in
-    let u = o .ensures .1 (not-false _ (c .before .before .before .before .before .before .before .before .before .before .before .before .if1 .left)) in
-    let room : length f ≤ length starts = (let q = o .kept .1 .1 .1 .1 .0 in let r = b .pre .1 .starting in let p = b .pre .0 .2 .few in omega arith) in
-    let w = b .args .words .now in
-    let y = b .args .size in
-    let e : b .args .ids .now ≡ idsIn w = b .pre .0 .1 in
-    let ls : cutLists w keys starts ≡ listsFor w y f = cut-lists w (b .pre .0 .0) y f (b .pre .0 .2) keys starts (u .0) (u .1) room in
-    let v = c .before .before .before .before .before .before .walk-lists .ensures in
-    let t = touches-at w (b .pre .0 .0) y f (b .pre .0 .2) (b .args .least) in
-    let h : postingsOf (cutLists w keys starts) (signatures (length (cutLists w keys starts)) (b .args .least)) + laterTouches (b .args .ids .now) (cutLists w keys starts) (b .args .least) (laterCount (cutLists w keys starts) (b .args .least)) ≡ touchesAt w y (listsFor w y f) (b .args .least) =
-    ap₂ (λ (r : List (List ℕ)) (m : List ℕ). postingsOf r (signatures (length r) (b .args .least)) + laterTouches m r (b .args .least) (laterCount r (b .args .least))) ls e ∙ sym t
-    in
-    record {
-      spent = rw h at (v .spent);
-      answers = λ q. v .answers q ∙ ap₂ (λ (r : List (List ℕ)) (m : List ℕ). kept (remainTable m r (b .args .least) (laterCount r (b .args .least))) (b .args .answers .now)) ls e;
-      cleared = v .cleared;
-      none = v .none;
-    }
+returns-3 : tie.Need-returns-3
+returns-3 c =
+    let v = c .before .before .before .before .before .before in
+    let d = v .before .before .before .before .before .before in
+    let o = ordered d in
+    let b = entry d in
+    sized-walked (b .args .words .now) (b .pre .0 .0) (b .args .size) (b .args .features .now) (b .pre .0 .2) (keys d) (starts d) (o .sorted) (o .begin) (o .room)
+    (b .pre .0 .1) (some (first (found d))) (v .walk-lists .ensures)
 
 pub one-size-spec : {M : Type 1} → statement M
 one-size-spec =
     tie.close
     (tie.spec
+    returns
     order-lists-requires
     same-length
     same-length-2
     same-length-3
-    returns
+    returns-2
     walk-lists-requires
     same-length-4
     same-length-5
@@ -134,4 +148,4 @@ one-size-spec =
     same-length-7
     same-length-8
     same-length-9
-    returns-2)
+    returns-3)
