@@ -22,13 +22,13 @@
 /* search_good, of an index that is known to be good (bench/measured.rattle) */
 rushgirdle_search_answer measured_search_good(const uint8_t *, size_t, uint8_t, uint16_t, uint16_t, uint32_t,
                                               const uint32_t *, size_t, uint32_t *, size_t, uint32_t *, size_t,
-                                              uint32_t *, size_t);
+                                              uint32_t *, size_t, uint32_t *, size_t);
 
 /* bench/twin.rs */
 bool twin_good(const uint32_t *, size_t);
 rushgirdle_build_answer twin_build(const uint8_t *, size_t, uint32_t *, size_t);
 rushgirdle_search_answer twin_search(const uint8_t *, size_t, uint8_t, uint16_t, uint16_t, uint32_t, const uint32_t *,
-                                     size_t, uint32_t *, uint32_t *, uint32_t *, size_t, bool);
+                                     size_t, uint32_t *, uint32_t *, uint32_t *, uint32_t *, size_t, bool);
 size_t twin_triples(const uint8_t *, size_t, uint64_t *, size_t);
 void twin_sort(uint64_t *, size_t);
 
@@ -161,7 +161,7 @@ struct scene {
 };
 
 /* Where searches, builds and imports write. */
-static uint32_t ids[NAMES], shared[NAMES], sizes[NAMES], built[WORDS];
+static uint32_t ids[NAMES], shared[NAMES], sizes[NAMES], least[NAMES], built[WORDS];
 static uint64_t copies[COPIES][POSTINGS];
 static uint32_t indexes[COPIES][WORDS];
 enum { CASE, VALUE, ID, WEEK, SUM, COUNT, COLUMNS };
@@ -246,7 +246,7 @@ static uint64_t proved_search_good(struct scene *s)
     for (size_t at = 0; at < s->queries; at++) {
         const struct query *q = &s->query[at];
         sum += measured_search_good((const uint8_t *)q->name, q->length, s->measure, s->p, s->q, UINT32_MAX, s->words,
-                                    s->total, ids, NAMES, shared, NAMES, sizes, NAMES).rows;
+                                    s->total, ids, NAMES, shared, NAMES, sizes, NAMES, least, NAMES).rows;
     }
     return sum;
 }
@@ -257,7 +257,7 @@ static uint64_t proved_search(struct scene *s)
     for (size_t at = 0; at < s->queries; at++) {
         const struct query *q = &s->query[at];
         sum += rushgirdle_search((const uint8_t *)q->name, q->length, s->measure, s->p, s->q, UINT32_MAX, s->words,
-                                 s->total, ids, NAMES, shared, NAMES, sizes, NAMES).rows;
+                                 s->total, ids, NAMES, shared, NAMES, sizes, NAMES, least, NAMES).rows;
     }
     return sum;
 }
@@ -268,7 +268,7 @@ static uint64_t twin_by(struct scene *s, bool checked)
     for (size_t at = 0; at < s->queries; at++) {
         const struct query *q = &s->query[at];
         sum += twin_search((const uint8_t *)q->name, q->length, s->measure, s->p, s->q, UINT32_MAX, s->words, s->total,
-                           ids, shared, sizes, NAMES, checked).rows;
+                           ids, shared, sizes, least, NAMES, checked).rows;
     }
     return sum;
 }
@@ -420,18 +420,18 @@ static void compare(struct scene *s)
     for (size_t at = 0; at < s->queries; at++) {
         const struct query *q = &s->query[at];
         const uint8_t *name = (const uint8_t *)q->name;
-        uint32_t column[4][3][NAMES];
+        uint32_t column[4][4][NAMES];
         rushgirdle_search_answer answer[4];
         memset(column, 0xA5, sizeof column);
         for (int by = 0; by < 4; by++) {
             uint32_t(*c)[NAMES] = column[by];
             answer[by] =
                 by == 0 ? rushgirdle_search(name, q->length, s->measure, s->p, s->q, UINT32_MAX, s->words, s->total,
-                                            c[0], NAMES, c[1], NAMES, c[2], NAMES)
+                                            c[0], NAMES, c[1], NAMES, c[2], NAMES, c[3], NAMES)
                 : by == 1 ? measured_search_good(name, q->length, s->measure, s->p, s->q, UINT32_MAX, s->words,
-                                                 s->total, c[0], NAMES, c[1], NAMES, c[2], NAMES)
+                                                 s->total, c[0], NAMES, c[1], NAMES, c[2], NAMES, c[3], NAMES)
                           : twin_search(name, q->length, s->measure, s->p, s->q, UINT32_MAX, s->words, s->total, c[0],
-                                        c[1], c[2], NAMES, by == 2);
+                                        c[1], c[2], c[3], NAMES, by == 2);
             const rushgirdle_search_answer *one = &answer[0], *other = &answer[by];
             if (one->number || other->number || one->rows != other->rows || one->touches != other->touches ||
                 one->p != other->p || one->q != other->q || memcmp(column[0], c, sizeof column[0]))
@@ -461,7 +461,7 @@ static void compare_import(struct scene *s, uint32_t allowance)
         const struct query *q = &s->query[at];
         rushgirdle_search_answer found =
             measured_search_good((const uint8_t *)q->name, q->length, s->measure, s->p, s->q, allowance, s->words,
-                                 s->total, ids, NAMES, shared, NAMES, sizes, NAMES);
+                                 s->total, ids, NAMES, shared, NAMES, sizes, NAMES, least, NAMES);
         bool belongs = !found.number && found.rows == 1;
         expected[CASE][at] = found.number ? RUSHGIRDLE_REFUSED
                              : belongs    ? RUSHGIRDLE_BELONGS

@@ -270,6 +270,7 @@ struct Lent<'a> {
     ids: &'a mut [u32],
     shared: &'a mut [u32],
     sizes: &'a mut [u32],
+    least: &'a mut [u32],
 }
 
 fn run(query: &[u8], measure: u8, p: u16, q: u16, allowance: u32, index: &Index<'_>, lent: Lent<'_>) -> SearchAnswer {
@@ -281,24 +282,27 @@ fn run(query: &[u8], measure: u8, p: u16, q: u16, allowance: u32, index: &Index<
     }
     let (wide_p, wide_q) = (u64::from(p), u64::from(q));
     let mut answers = [0u32; NAMES];
+    let mut leasts = [0u32; FEATURES + 1];
     let mut touches = 0;
     for y in (3..=FEATURES).filter(|y| present[*y]) {
         if searched(measure, wide_p, wide_q, x as u64, y as u64) {
-            let least = least_count(measure, wide_p, wide_q, x as u64, y as u64) as usize;
-            match one_size(index, &set[..x], y as u32, least, allowance as usize - touches, &mut answers) {
+            leasts[y] = least_count(measure, wide_p, wide_q, x as u64, y as u64) as u32;
+            match one_size(index, &set[..x], y as u32, leasts[y] as usize, allowance as usize - touches, &mut answers) {
                 None => return refused(7, allowance),
                 Some(more) => touches += more,
             }
         }
     }
     let rows = answers.iter().filter(|count| **count > 0).count();
-    if rows > lent.ids.len().min(lent.shared.len()).min(lent.sizes.len()) {
+    if rows > lent.ids.len().min(lent.shared.len()).min(lent.sizes.len()).min(lent.least.len()) {
         return refused(8, touches as u32);
     }
     let mut row = 0;
     for (name, count) in index.names.iter().zip(answers) {
         if count > 0 {
-            (lent.ids[row], lent.shared[row], lent.sizes[row]) = (name >> 8, count, name & 255);
+            let size = name & 255;
+            (lent.ids[row], lent.shared[row], lent.sizes[row]) = (name >> 8, count, size);
+            lent.least[row] = leasts[size as usize];
             row += 1;
         }
     }
@@ -434,6 +438,7 @@ pub extern "C" fn twin_search(
     ids: *mut u32,
     shared: *mut u32,
     sizes: *mut u32,
+    least: *mut u32,
     room: usize,
     checked: bool,
 ) -> SearchAnswer {
@@ -446,7 +451,12 @@ pub extern "C" fn twin_search(
         return refused(6, 0);
     }
     let Some(index) = cut(words) else { return refused(6, 0) };
-    let lent = Lent { ids: lent!(mut ids, room), shared: lent!(mut shared, room), sizes: lent!(mut sizes, room) };
+    let lent = Lent {
+        ids: lent!(mut ids, room),
+        shared: lent!(mut shared, room),
+        sizes: lent!(mut sizes, room),
+        least: lent!(mut least, room),
+    };
     run(query, measure, p, q, allowance, &index, lent)
 }
 

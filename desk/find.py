@@ -9,6 +9,8 @@ from .programs import MOST_ALLOWANCE, Number
 from .text import count, quoted, shown, table
 
 HOW = {1: '2c / (x + y)', 2: 'c / (x + y - c)', 3: 'c / √(xy)', 4: 'c / min(x, y)'}
+# beside a name that shares no more than the least count of its size
+ONLY_JUST = 'only just'
 # groups of three letters over a name with two marks before it and two after it
 MORE_FEATURES = 2
 
@@ -36,13 +38,14 @@ def find(options):
     registers.judge(options.register, pools, asked.frame(b''), f'{asked.p}/{asked.q}')
     found = answer(asked, pools)
     names = {pool.id: pool.name for pool in pools}
-    rows = [(Similarity(asked.measure, shared, asked.size, size), number, shared, size) for number, shared, size in found.rows]
+    rows = [(Similarity(asked.measure, shared, asked.size, size), number, shared, size, least) for number, shared, size, least in found.rows]
     if options.by == 'similarity':
         rows.sort(key=lambda row: (-row[0].key, row[1]))
     if rows:
-        print(table(('id', 'name', 'similarity', 'decimal', 'shared'),
-                    [(str(number), shown(names[number]), alike.fraction, alike.decimal, str(shared)) for alike, number, shared, _ in rows],
-                    right=('id', 'similarity', 'decimal', 'shared')))
+        print(table(('id', 'name', 'similarity', 'decimal', 'shared', 'least', ''),
+                    [(str(number), shown(names[number]), alike.fraction, alike.decimal, str(shared), str(least), ONLY_JUST if shared == least else '')
+                     for alike, number, shared, _, least in rows],
+                    right=('id', 'similarity', 'decimal', 'shared', 'least')))
     else:
         print(f'No registered name is like {quoted(asked.name)} by {asked.by()}. The register was searched whole.' + in_small_letters(asked, pools))
     if options.explain:
@@ -61,8 +64,8 @@ def answer(asked, pools):
         found = answers if isinstance(answers, Number) else answers[0]
     if isinstance(found, Number):
         raise Refused(f'{quoted(asked.name)}: {sentence(found.number)}')
-    if any(not 1 <= shared <= min(asked.size, size) for _, shared, size in found.rows):
-        raise Broken('lookup listed a name with more shared features than it has, and nothing of its output is used.')
+    if any(not 1 <= least <= shared <= min(asked.size, size) for _, shared, size, least in found.rows):
+        raise Broken('lookup listed a name with counts of shared features that no name has, and nothing of its output is used.')
     return found
 
 
@@ -86,6 +89,6 @@ def in_small_letters(asked, pools):
 def explained(asked, found, rows):
     lines = [f'{quoted(asked.name)} has x = {asked.size} features: its groups of three letters, with two marks before it and two after it.',
              f'A name with y features, c of them shared, is listed exactly if {HOW[asked.measure]} is at least {asked.p}/{asked.q}.']
-    lines += [f'  id {number}: y = {size}, c = {shared}: {alike.fraction}' for alike, number, shared, size in rows]
+    lines += [f'  id {number}: y = {size}, c = {shared} where {least} would do: {alike.fraction}' for alike, number, shared, size, least in rows]
     lines.append(f'Decimals are rounded down. The search took {count(found.touches, "touch", "touches")}.')
     return '\n'.join(lines)

@@ -34,7 +34,7 @@ def torn(program):
 
 
 class Found:
-    """An answered search: its rows (id, shared features, size), and its touches."""
+    """An answered search: its rows (id, shared features, size, least count), and its touches."""
 
     def __init__(self, rows, touches):
         self.rows, self.touches = rows, touches

@@ -136,21 +136,24 @@ typedef struct {
 } rushgirdle_search_answer;
 
 /* The names that are like the query by the measure and the threshold p/q, within the allowance of touches. Row k of the answer is ids[k],
- * shared[k], sizes[k]: the name's id, how many features it shares with the query, and its own size; by ascending id. The rows lent are as many
- * as the shortest of the three columns has places; those beyond the answer keep their contents, all of them where it is refused. Checks the
- * index each time. */
+ * shared[k], sizes[k], least[k]: the name's id, how many features it shares with the query, its own size, and the least count of shared features
+ * with which a name of that size passes; by ascending id. shared[k] is never below least[k], and a name with the two equal only just passes. The
+ * rows lent are as many as the shortest of the four columns has places; those beyond the answer keep their contents, all of them where it is
+ * refused. Checks the index each time. */
 rushgirdle_search_answer rushgirdle_search(
     const uint8_t *query, size_t query_length,
     uint8_t measure, uint16_t p, uint16_t q, uint32_t allowance,
     const uint32_t *words, size_t words_length,
     uint32_t *ids, size_t ids_length,
     uint32_t *shared, size_t shared_length,
-    uint32_t *sizes, size_t sizes_length);
+    uint32_t *sizes, size_t sizes_length,
+    uint32_t *least, size_t least_length);
 
 typedef struct {
     uint32_t id;      /* the name's id */
     uint32_t shared;  /* how many features it shares with the query */
     uint32_t size;    /* its own size */
+    uint32_t least;   /* the least count of shared features with which a name of that size passes; at most shared */
 } rushgirdle_row;
 
 /* The same search, with its rows as records: row k of the answer is rows[k], by ascending id. The rows lent are rows_length; those beyond the
@@ -229,6 +232,7 @@ typedef struct {
     uint16_t id;
     uint8_t shared;
     uint8_t size;
+    uint8_t least;
 } rushgirdle_row_answer;
 
 /* 52: a row of an answer */
@@ -286,7 +290,7 @@ rushgirdle_write_answer rushgirdle_write_query(
 
 rushgirdle_write_answer rushgirdle_write_row(
     uint8_t *out, size_t out_length,
-    uint16_t id, uint8_t shared, uint8_t size);
+    uint16_t id, uint8_t shared, uint8_t size, uint8_t least);
 
 rushgirdle_write_answer rushgirdle_write_end(
     uint8_t *out, size_t out_length,

@@ -361,24 +361,25 @@ static void print_found(rushgirdle_search_answer a)
     printf("%u %u %u %u %u", (unsigned)a.number, (unsigned)a.rows, (unsigned)a.touches, (unsigned)a.p, (unsigned)a.q);
 }
 
-static void print_row(uint32_t id, uint32_t shared, uint32_t size)
+static void print_row(uint32_t id, uint32_t shared, uint32_t size, uint32_t least)
 {
-    printf(" %u:%u:%u", id, shared, size);
+    printf(" %u:%u:%u:%u", id, shared, size, least);
 }
 
 static void search(void)
 {
     search_case();
-    struct slice ids = column(room), shared = column(room), sizes = column(room);
+    struct slice ids = column(room), shared = column(room), sizes = column(room), least = column(room);
     rushgirdle_search_answer a =
         rushgirdle_search(part(&query), query.bytes, measure, p, q, allowance, part(&searched), searched.bytes / 4,
-                          part(&ids), room, part(&shared), room, part(&sizes), room);
-    struct slice *lent[] = { &query, &searched, &ids, &shared, &sizes };
+                          part(&ids), room, part(&shared), room, part(&sizes), room, part(&least), room);
+    struct slice *lent[] = { &query, &searched, &ids, &shared, &sizes, &least };
     for (size_t i = 0; i < sizeof lent / sizeof *lent; i++)
         check_slice(lent[i]);
     print_found(a);
     for (size_t i = 0; i < room; i++)
-        print_row(((uint32_t *)part(&ids))[i], ((uint32_t *)part(&shared))[i], ((uint32_t *)part(&sizes))[i]);
+        print_row(((uint32_t *)part(&ids))[i], ((uint32_t *)part(&shared))[i], ((uint32_t *)part(&sizes))[i],
+                  ((uint32_t *)part(&least))[i]);
     putchar('\n');
     for (size_t i = 0; i < sizeof lent / sizeof *lent; i++)
         drop(lent[i]);
@@ -390,7 +391,7 @@ static void rows(void)
     struct slice list = slice_of(room * sizeof(rushgirdle_row), 0);
     rushgirdle_row *row = part(&list);
     for (size_t i = 0; i < room; i++)
-        row[i] = (rushgirdle_row){ LENT_FIELD, LENT_FIELD, LENT_FIELD };
+        row[i] = (rushgirdle_row){ LENT_FIELD, LENT_FIELD, LENT_FIELD, LENT_FIELD };
     rushgirdle_search_answer a = rushgirdle_search_rows(part(&query), query.bytes, measure, p, q, allowance,
                                                         part(&searched), searched.bytes / 4, row, room);
     struct slice *lent[] = { &query, &searched, &list };
@@ -398,7 +399,7 @@ static void rows(void)
         check_slice(lent[i]);
     print_found(a);
     for (size_t i = 0; i < room; i++)
-        print_row(row[i].id, row[i].shared, row[i].size);
+        print_row(row[i].id, row[i].shared, row[i].size, row[i].least);
     putchar('\n');
     for (size_t i = 0; i < sizeof lent / sizeof *lent; i++)
         drop(lent[i]);
@@ -466,7 +467,7 @@ static void read_frame(unsigned kind, struct slice *buffer)
     }
     case 0x52: {
         rushgirdle_row_answer a = rushgirdle_read_row(at, length);
-        printf("%u %u %u %u", (unsigned)a.number, (unsigned)a.id, (unsigned)a.shared, (unsigned)a.size);
+        printf("%u %u %u %u %u", (unsigned)a.number, (unsigned)a.id, (unsigned)a.shared, (unsigned)a.size, (unsigned)a.least);
         break;
     }
     case 0x45: {
@@ -518,7 +519,8 @@ static void write_frame(unsigned kind, struct slice *buffer)
     case 0x52: {
         uint16_t id = (uint16_t)number("id", UINT16_MAX);
         uint8_t shared = (uint8_t)number("shared", UINT8_MAX), size = (uint8_t)number("size", UINT8_MAX);
-        a = rushgirdle_write_row(out, room, id, shared, size);
+        uint8_t least = (uint8_t)number("least", UINT8_MAX);
+        a = rushgirdle_write_row(out, room, id, shared, size, least);
         break;
     }
     case 0x45: {

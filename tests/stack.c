@@ -68,7 +68,7 @@ static char lines[RUSHGIRDLE_MOST_NAMES * LINE + 1], logged[RUSHGIRDLE_MOST_LINE
 static size_t lines_length, logged_length;
 static uint8_t query[NAME];
 static uint32_t words[RUSHGIRDLE_MOST_WORDS], built[RUSHGIRDLE_MOST_WORDS], fewer[RUSHGIRDLE_MOST_WORDS]; /* `fewer` has not the last name */
-static uint32_t ids[RUSHGIRDLE_MOST_NAMES], shared[RUSHGIRDLE_MOST_NAMES], sizes[RUSHGIRDLE_MOST_NAMES];
+static uint32_t ids[RUSHGIRDLE_MOST_NAMES], shared[RUSHGIRDLE_MOST_NAMES], sizes[RUSHGIRDLE_MOST_NAMES], least[RUSHGIRDLE_MOST_NAMES];
 static rushgirdle_row rows[RUSHGIRDLE_MOST_NAMES];
 static uint32_t cases[RUSHGIRDLE_MOST_LINES], values[RUSHGIRDLE_MOST_LINES];
 static uint32_t pair_ids[RUSHGIRDLE_MOST_LINES], weeks[RUSHGIRDLE_MOST_LINES], sums[RUSHGIRDLE_MOST_LINES], counts[RUSHGIRDLE_MOST_LINES];
@@ -131,7 +131,7 @@ static void call_list(void) { CALLEE(rushgirdle_list)(words, RUSHGIRDLE_MOST_WOR
 static void call_search(void)
 {
     CALLEE(rushgirdle_search)(query, NAME, measure, p, q, UINT32_MAX, words, RUSHGIRDLE_MOST_WORDS,
-                              ids, RUSHGIRDLE_MOST_NAMES, shared, RUSHGIRDLE_MOST_NAMES, sizes, RUSHGIRDLE_MOST_NAMES);
+                              ids, RUSHGIRDLE_MOST_NAMES, shared, RUSHGIRDLE_MOST_NAMES, sizes, RUSHGIRDLE_MOST_NAMES, least, RUSHGIRDLE_MOST_NAMES);
 }
 static void call_search_rows(void)
 {
@@ -151,7 +151,7 @@ static void call_read_refusal(void) { CALLEE(rushgirdle_read_refusal)(line, line
 static void call_read_log(void) { CALLEE(rushgirdle_read_log)(line, line_length, name, sizeof name); }
 static void call_write_name(void) { CALLEE(rushgirdle_write_name)(line, sizeof line, 65535, name, sizeof name); }
 static void call_write_query(void) { CALLEE(rushgirdle_write_query)(line, sizeof line, 4, 610, 987, UINT32_MAX, name, sizeof name); }
-static void call_write_row(void) { CALLEE(rushgirdle_write_row)(line, sizeof line, 65535, 66, 66); }
+static void call_write_row(void) { CALLEE(rushgirdle_write_row)(line, sizeof line, 65535, 66, 66, 66); }
 static void call_write_end(void) { CALLEE(rushgirdle_write_end)(line, sizeof line, 256, UINT32_MAX, 610, 987); }
 static void call_write_refusal(void) { CALLEE(rushgirdle_write_refusal)(line, sizeof line, 7, UINT32_MAX); }
 static void call_write_log(void) { CALLEE(rushgirdle_write_log)(line, sizeof line, 65535, 65535, name, sizeof name); }
@@ -242,7 +242,7 @@ int main(void)
     line_length = rushgirdle_write_query(line, sizeof line, 1, 1, 1, 1, name, sizeof name).len;
     TRY(read_query);
     TRY(write_row);
-    line_length = rushgirdle_write_row(line, sizeof line, 1, 1, 1).len;
+    line_length = rushgirdle_write_row(line, sizeof line, 1, 1, 1, 1).len;
     TRY(read_row);
     TRY(write_end);
     line_length = rushgirdle_write_end(line, sizeof line, 1, 1, 1, 1).len;

@@ -420,21 +420,37 @@ static void test_upkeep_most(void)
 /* ---- the search */
 
 #define INDEX 200
-static uint32_t lane[INDEX], ids[8], shared[8], sizes[8];
+static uint32_t lane[INDEX], ids[8], shared[8], sizes[8], least[8];
 
-static rushgirdle_search_answer search(const char *query, unsigned measure, unsigned p, unsigned q, uint32_t allowance, size_t a, size_t b, size_t c)
+static void fill_columns(void)
 {
     fill_words(ids, 8);
     fill_words(shared, 8);
     fill_words(sizes, 8);
+    fill_words(least, 8);
+}
+
+static int columns_kept(size_t from)
+{
+    return all_words(ids, from, 8, KEPT) && all_words(shared, from, 8, KEPT) && all_words(sizes, from, 8, KEPT) && all_words(least, from, 8, KEPT);
+}
+
+static int columns_are(size_t k, uint32_t id, uint32_t share, uint32_t size, uint32_t count)
+{
+    return ids[k] == id && shared[k] == share && sizes[k] == size && least[k] == count;
+}
+
+/* into the four columns, of these lengths */
+static rushgirdle_search_answer search(const char *query, unsigned measure, unsigned p, unsigned q, uint32_t allowance, size_t a, size_t b, size_t c, size_t d)
+{
+    fill_columns();
     return rushgirdle_search((const uint8_t *)query, strlen(query), (uint8_t)measure, (uint16_t)p, (uint16_t)q, allowance,
-                             lane, INDEX, ids, a, shared, b, sizes, c);
+                             lane, INDEX, ids, a, shared, b, sizes, c, least, d);
 }
 
 static int refused(rushgirdle_search_answer a, unsigned number, uint32_t touches)
 {
-    return a.number == number && a.rows == 0 && a.touches == touches && a.p == 0 && a.q == 0 &&
-           all_words(ids, 0, 8, KEPT) && all_words(shared, 0, 8, KEPT) && all_words(sizes, 0, 8, KEPT);
+    return a.number == number && a.rows == 0 && a.touches == touches && a.p == 0 && a.q == 0 && columns_kept(0);
 }
 
 static void test_search(void)
@@ -444,78 +460,74 @@ static void test_search(void)
     EXPECT(b.number == 0);
 
     /* LANE has size 6; LANES and PLANE have 7 and share 4 with it; 6 touches at size 6 and 9 at size 7 */
-    rushgirdle_search_answer a = search("LANE", RUSHGIRDLE_DICE, 8, 13, 15, 8, 8, 8);
+    rushgirdle_search_answer a = search("LANE", RUSHGIRDLE_DICE, 8, 13, 15, 8, 8, 8, 8);
     EXPECT(a.number == 0 && a.rows == 3 && a.touches == 15 && a.p == 8 && a.q == 13);
-    EXPECT(ids[0] == 10 && ids[1] == 11 && ids[2] == 12 && all_words(ids, 3, 8, KEPT));
-    EXPECT(shared[0] == 6 && shared[1] == 4 && shared[2] == 4 && all_words(shared, 3, 8, KEPT));
-    EXPECT(sizes[0] == 6 && sizes[1] == 7 && sizes[2] == 7 && all_words(sizes, 3, 8, KEPT));
+    /* the least count is 4 of both sizes: 26 * 4 reaches 8 * 12 and 8 * 13, and 26 * 3 neither */
+    EXPECT(columns_are(0, 10, 6, 6, 4) && columns_are(1, 11, 4, 7, 4) && columns_are(2, 12, 4, 7, 4) && columns_kept(3));
     /* the same in lowest terms, with just the room, one column at a time */
-    a = search("LANE", 1, 16, 26, BLANK, 3, 8, 5);
-    EXPECT(a.number == 0 && a.rows == 3 && a.touches == 15 && a.p == 8 && a.q == 13 && ids[2] == 12 && shared[2] == 4 && sizes[2] == 7);
-    a = search("LANE", 1, 8, 13, 14, 8, 8, 8);
+    a = search("LANE", 1, 16, 26, BLANK, 3, 8, 5, 8);
+    EXPECT(a.number == 0 && a.rows == 3 && a.touches == 15 && a.p == 8 && a.q == 13 && columns_are(2, 12, 4, 7, 4));
+    a = search("LANE", 1, 8, 13, 15, 8, 4, 8, 3);
+    EXPECT(a.number == 0 && a.rows == 3 && columns_are(2, 12, 4, 7, 4) && columns_kept(3));
+    a = search("LANE", 1, 8, 13, 14, 8, 8, 8, 8);
     EXPECT(refused(a, 7, 14));
-    a = search("LANE", 1, 8, 13, 0, 8, 8, 8);
+    a = search("LANE", 1, 8, 13, 0, 8, 8, 8, 8);
     EXPECT(refused(a, 7, 0));
-    a = search("LANE", 1, 8, 13, 15, 2, 8, 8);
+    a = search("LANE", 1, 8, 13, 15, 2, 8, 8, 8);
     EXPECT(refused(a, 8, 15));
-    a = search("LANE", 1, 8, 13, 15, 8, 2, 8);
+    a = search("LANE", 1, 8, 13, 15, 8, 2, 8, 8);
     EXPECT(refused(a, 8, 15));
-    a = search("LANE", 1, 8, 13, 15, 8, 8, 2);
+    a = search("LANE", 1, 8, 13, 15, 8, 8, 2, 8);
+    EXPECT(refused(a, 8, 15));
+    a = search("LANE", 1, 8, 13, 15, 8, 8, 8, 2);
     EXPECT(refused(a, 8, 15));
     /* one step above the similarity: LANE alone */
-    a = search("LANE", 1, 9, 13, 100, 8, 8, 8);
-    EXPECT(a.number == 0 && a.rows == 1 && a.p == 9 && a.q == 13 && ids[0] == 10 && shared[0] == 6 && sizes[0] == 6);
-    EXPECT(all_words(ids, 1, 8, KEPT) && all_words(shared, 1, 8, KEPT) && all_words(sizes, 1, 8, KEPT));
+    a = search("LANE", 1, 9, 13, 100, 8, 8, 8, 8);
+    EXPECT(a.number == 0 && a.rows == 1 && a.p == 9 && a.q == 13 && columns_are(0, 10, 6, 6, 5) && columns_kept(1));
     /* the other measures, on the threshold and beside it */
-    EXPECT(search("LANE", RUSHGIRDLE_JACCARD, 4, 9, 100, 8, 8, 8).rows == 3);
-    EXPECT(search("LANE", RUSHGIRDLE_JACCARD, 1, 2, 100, 8, 8, 8).rows == 1);
-    EXPECT(search("LANE", RUSHGIRDLE_COSINE, 617, 1000, 100, 8, 8, 8).rows == 3);
-    EXPECT(search("LANE", RUSHGIRDLE_COSINE, 618, 1000, 100, 8, 8, 8).rows == 1);
-    EXPECT(search("LANE", RUSHGIRDLE_OVERLAP, 2, 3, 100, 8, 8, 8).rows == 3);
-    EXPECT(search("LANE", RUSHGIRDLE_OVERLAP, 667, 1000, 100, 8, 8, 8).rows == 1);
+    EXPECT(search("LANE", RUSHGIRDLE_JACCARD, 4, 9, 100, 8, 8, 8, 8).rows == 3);
+    EXPECT(search("LANE", RUSHGIRDLE_JACCARD, 1, 2, 100, 8, 8, 8, 8).rows == 1);
+    EXPECT(search("LANE", RUSHGIRDLE_COSINE, 617, 1000, 100, 8, 8, 8, 8).rows == 3);
+    EXPECT(search("LANE", RUSHGIRDLE_COSINE, 618, 1000, 100, 8, 8, 8, 8).rows == 1);
+    EXPECT(search("LANE", RUSHGIRDLE_OVERLAP, 2, 3, 100, 8, 8, 8, 8).rows == 3);
+    EXPECT(search("LANE", RUSHGIRDLE_OVERLAP, 667, 1000, 100, 8, 8, 8, 8).rows == 1);
 
     /* the refusals in their order, each before those after it */
-    a = search("", 0, 0, 0, 0, 0, 0, 0);
+    a = search("", 0, 0, 0, 0, 0, 0, 0, 0);
     EXPECT(refused(a, 1, 0));
-    a = search("AAAAAAAAAAAAAAAAAAAAAAAAAAAAAAAAAAAAAAAAAAAAAAAAAAAAAAAAAAAAAAAAA", 0, 0, 0, 0, 8, 8, 8);
+    a = search("AAAAAAAAAAAAAAAAAAAAAAAAAAAAAAAAAAAAAAAAAAAAAAAAAAAAAAAAAAAAAAAAA", 0, 0, 0, 0, 8, 8, 8, 8);
     EXPECT(refused(a, 2, 0));
-    fill_words(ids, 8);
-    fill_words(shared, 8);
-    fill_words(sizes, 8);
-    a = rushgirdle_search((const uint8_t *)"A\0B", 3, 0, 0, 0, 0, lane, INDEX, ids, 8, shared, 8, sizes, 8);
+    fill_columns();
+    a = rushgirdle_search((const uint8_t *)"A\0B", 3, 0, 0, 0, 0, lane, INDEX, ids, 8, shared, 8, sizes, 8, least, 8);
     EXPECT(refused(a, 3, 0));
     /* a tab, the delete code and the last control character; a 0 byte comes before them, and what is beside them passes */
-    EXPECT(refused(search("A\tB", 0, 0, 0, 0, 8, 8, 8), RUSHGIRDLE_CONTROL, 0));
-    EXPECT(refused(search("A\x7f", 1, 8, 13, 15, 8, 8, 8), 12, 0));
-    EXPECT(refused(search("\x1f", 1, 8, 13, 15, 8, 8, 8), 12, 0));
-    fill_words(ids, 8);
-    fill_words(shared, 8);
-    fill_words(sizes, 8);
-    EXPECT(refused(rushgirdle_search((const uint8_t *)"\t\0", 2, 1, 8, 13, 15, lane, INDEX, ids, 8, shared, 8, sizes, 8), 3, 0));
-    EXPECT(refused(search(" ~\x80\xff", 0, 0, 0, 0, 8, 8, 8), 4, 0));
+    EXPECT(refused(search("A\tB", 0, 0, 0, 0, 8, 8, 8, 8), RUSHGIRDLE_CONTROL, 0));
+    EXPECT(refused(search("A\x7f", 1, 8, 13, 15, 8, 8, 8, 8), 12, 0));
+    EXPECT(refused(search("\x1f", 1, 8, 13, 15, 8, 8, 8, 8), 12, 0));
+    fill_columns();
+    EXPECT(refused(rushgirdle_search((const uint8_t *)"\t\0", 2, 1, 8, 13, 15, lane, INDEX, ids, 8, shared, 8, sizes, 8, least, 8), 3, 0));
+    EXPECT(refused(search(" ~\x80\xff", 0, 0, 0, 0, 8, 8, 8, 8), 4, 0));
     /* a name with a tab that is in the index shares 4 features with LANE: 1 signature posting and 3 tests */
-    a = rushgirdle_search((const uint8_t *)"LANE", 4, 1, 8, 13, 4, tabbed, 39, ids, 8, shared, 8, sizes, 8);
-    EXPECT(a.number == 0 && a.rows == 1 && a.touches == 4 && ids[0] == 5 && shared[0] == 4 && sizes[0] == 7);
-    EXPECT(refused(search("LANE", 0, 0, 0, 15, 8, 8, 8), 4, 0));
-    EXPECT(refused(search("LANE", 5, 8, 13, 15, 8, 8, 8), 4, 0));
-    EXPECT(refused(search("LANE", 255, 8, 13, 15, 8, 8, 8), 4, 0));
-    EXPECT(refused(search("LANE", 1, 0, 13, 15, 8, 8, 8), 5, 0));
-    EXPECT(refused(search("LANE", 1, 14, 13, 15, 8, 8, 8), 5, 0));
-    EXPECT(refused(search("LANE", 1, 8, 1001, 15, 8, 8, 8), 5, 0));
-    EXPECT(search("LANE", 1, 1000, 1000, 15, 8, 8, 8).number == 0);
+    a = rushgirdle_search((const uint8_t *)"LANE", 4, 1, 8, 13, 4, tabbed, 39, ids, 8, shared, 8, sizes, 8, least, 8);
+    EXPECT(a.number == 0 && a.rows == 1 && a.touches == 4 && columns_are(0, 5, 4, 7, 4));
+    EXPECT(refused(search("LANE", 0, 0, 0, 15, 8, 8, 8, 8), 4, 0));
+    EXPECT(refused(search("LANE", 5, 8, 13, 15, 8, 8, 8, 8), 4, 0));
+    EXPECT(refused(search("LANE", 255, 8, 13, 15, 8, 8, 8, 8), 4, 0));
+    EXPECT(refused(search("LANE", 1, 0, 13, 15, 8, 8, 8, 8), 5, 0));
+    EXPECT(refused(search("LANE", 1, 14, 13, 15, 8, 8, 8, 8), 5, 0));
+    EXPECT(refused(search("LANE", 1, 8, 1001, 15, 8, 8, 8, 8), 5, 0));
+    EXPECT(search("LANE", 1, 1000, 1000, 15, 8, 8, 8, 8).number == 0);
     uint32_t last = lane[2];
     lane[2] = last + 1;
-    EXPECT(refused(search("LANE", 1, 8, 13, 0, 0, 0, 0), 6, 0));
+    EXPECT(refused(search("LANE", 1, 8, 13, 0, 0, 0, 0, 0), 6, 0));
     lane[2] = last;
 
-    /* NULL with length 0: a query, an index, the three columns */
-    fill_words(ids, 8);
-    fill_words(shared, 8);
-    fill_words(sizes, 8);
-    EXPECT(refused(rushgirdle_search(NULL, 0, 1, 8, 13, 15, lane, INDEX, ids, 8, shared, 8, sizes, 8), 1, 0));
-    EXPECT(refused(rushgirdle_search((const uint8_t *)"LANE", 4, 1, 8, 13, 15, NULL, 0, ids, 8, shared, 8, sizes, 8), 6, 0));
-    EXPECT(refused(rushgirdle_search((const uint8_t *)"LANE", 4, 1, 8, 13, 15, lane, INDEX, NULL, 0, NULL, 0, NULL, 0), 8, 15));
-    a = rushgirdle_search((const uint8_t *)"XYZ", 3, 1, 1, 1, 100, lane, INDEX, NULL, 0, NULL, 0, NULL, 0);
+    /* NULL with length 0: a query, an index, the four columns */
+    fill_columns();
+    EXPECT(refused(rushgirdle_search(NULL, 0, 1, 8, 13, 15, lane, INDEX, ids, 8, shared, 8, sizes, 8, least, 8), 1, 0));
+    EXPECT(refused(rushgirdle_search((const uint8_t *)"LANE", 4, 1, 8, 13, 15, NULL, 0, ids, 8, shared, 8, sizes, 8, least, 8), 6, 0));
+    EXPECT(refused(rushgirdle_search((const uint8_t *)"LANE", 4, 1, 8, 13, 15, lane, INDEX, NULL, 0, NULL, 0, NULL, 0, NULL, 0), 8, 15));
+    a = rushgirdle_search((const uint8_t *)"XYZ", 3, 1, 1, 1, 100, lane, INDEX, NULL, 0, NULL, 0, NULL, 0, NULL, 0);
     EXPECT(a.number == 0 && a.rows == 0 && a.touches == 0 && a.p == 1 && a.q == 1);
 }
 
@@ -523,12 +535,15 @@ static void test_search(void)
 
 static rushgirdle_row rows[8];
 
-static int row_is(const rushgirdle_row *r, uint32_t id, uint32_t share, uint32_t size) { return r->id == id && r->shared == share && r->size == size; }
+static int row_is(const rushgirdle_row *r, uint32_t id, uint32_t share, uint32_t size, uint32_t count)
+{
+    return r->id == id && r->shared == share && r->size == size && r->least == count;
+}
 
 static int rows_kept(size_t from)
 {
     for (size_t k = from; k < 8; k++)
-        if (!row_is(&rows[k], KEPT, KEPT, KEPT))
+        if (!row_is(&rows[k], KEPT, KEPT, KEPT, KEPT))
             return 0;
     return 1;
 }
@@ -549,22 +564,22 @@ static int rows_refused(rushgirdle_search_answer a, unsigned number, uint32_t to
 
 static void test_rows(void)
 {
-    /* a record is three words, one after the other */
-    EXPECT(sizeof(rushgirdle_row) == 12 && sizeof rows == 96);
+    /* a record is four words, one after the other */
+    EXPECT(sizeof(rushgirdle_row) == 16 && sizeof rows == 128);
 
     /* the index of LANE, LANES and PLANE that test_search has built */
     rushgirdle_search_answer a = search_rows("LANE", RUSHGIRDLE_DICE, 8, 13, 15, 8);
     EXPECT(a.number == 0 && a.rows == 3 && a.touches == 15 && a.p == 8 && a.q == 13);
-    EXPECT(row_is(&rows[0], 10, 6, 6) && row_is(&rows[1], 11, 4, 7) && row_is(&rows[2], 12, 4, 7) && rows_kept(3));
+    EXPECT(row_is(&rows[0], 10, 6, 6, 4) && row_is(&rows[1], 11, 4, 7, 4) && row_is(&rows[2], 12, 4, 7, 4) && rows_kept(3));
     /* the same in lowest terms, with just the room; with one less, or one touch less, no row is written */
     a = search_rows("LANE", 1, 16, 26, BLANK, 3);
-    EXPECT(a.number == 0 && a.rows == 3 && a.touches == 15 && a.p == 8 && a.q == 13 && row_is(&rows[2], 12, 4, 7) && rows_kept(3));
+    EXPECT(a.number == 0 && a.rows == 3 && a.touches == 15 && a.p == 8 && a.q == 13 && row_is(&rows[2], 12, 4, 7, 4) && rows_kept(3));
     EXPECT(rows_refused(search_rows("LANE", 1, 8, 13, 15, 2), 8, 15));
     EXPECT(rows_refused(search_rows("LANE", 1, 8, 13, 14, 8), 7, 14));
     EXPECT(rows_refused(search_rows("LANE", 1, 8, 13, 0, 8), 7, 0));
     /* one step above the similarity: LANE alone */
     a = search_rows("LANE", 1, 9, 13, 100, 8);
-    EXPECT(a.number == 0 && a.rows == 1 && a.p == 9 && a.q == 13 && row_is(&rows[0], 10, 6, 6) && rows_kept(1));
+    EXPECT(a.number == 0 && a.rows == 1 && a.p == 9 && a.q == 13 && row_is(&rows[0], 10, 6, 6, 5) && rows_kept(1));
 
     /* the refusals in their order, each before those after it */
     EXPECT(rows_refused(search_rows("", 0, 0, 0, 0, 0), 1, 0));
@@ -603,7 +618,7 @@ static void test_rows(void)
     EXPECT(a.number == 8 && a.rows == 0 && all_bytes((const uint8_t *)all, 0, sizeof all, 0xA5));
     a = rushgirdle_search_rows((const uint8_t *)"A", 1, 1, 1, 1, BLANK, words, RUSHGIRDLE_MOST_WORDS, all, 300);
     EXPECT(a.number == 0 && a.rows == 256 && a.touches == 768);
-    EXPECT(row_is(&all[0], 0, 3, 3) && row_is(&all[255], 510, 3, 3) && all_bytes((const uint8_t *)&all[256], 0, 44 * sizeof *all, 0xA5));
+    EXPECT(row_is(&all[0], 0, 3, 3, 3) && row_is(&all[255], 510, 3, 3, 3) && all_bytes((const uint8_t *)&all[256], 0, 44 * sizeof *all, 0xA5));
 }
 
 /* ---- the import */
@@ -850,12 +865,14 @@ static void test_read(void)
     q = rushgirdle_read_query(NULL, 0, NULL, 0);
     EXPECT(q.number == 11 && q.measure == 0 && q.p == 0 && q.q == 0 && q.allowance == 0 && q.len == 0);
 
-    rushgirdle_row_answer r = rushgirdle_read_row(bytes("521234AB56\n"), 11);
-    EXPECT(r.number == 0 && r.id == 0x1234 && r.shared == 0xAB && r.size == 0x56);
-    r = rushgirdle_read_row(bytes("521234Ab56\n"), 11);
-    EXPECT(r.number == 11 && r.id == 0 && r.shared == 0 && r.size == 0);
+    rushgirdle_row_answer r = rushgirdle_read_row(bytes("521234AB5678\n"), 13);
+    EXPECT(r.number == 0 && r.id == 0x1234 && r.shared == 0xAB && r.size == 0x56 && r.least == 0x78);
+    r = rushgirdle_read_row(bytes("521234Ab5678\n"), 13);
+    EXPECT(r.number == 11 && r.id == 0 && r.shared == 0 && r.size == 0 && r.least == 0);
+    r = rushgirdle_read_row(bytes("521234AB56\n"), 11); /* without a least count */
+    EXPECT(r.number == 11 && r.id == 0 && r.shared == 0 && r.size == 0 && r.least == 0);
     r = rushgirdle_read_row(NULL, 0);
-    EXPECT(r.number == 11 && r.id == 0 && r.shared == 0 && r.size == 0);
+    EXPECT(r.number == 11 && r.id == 0 && r.shared == 0 && r.size == 0 && r.least == 0);
 
     rushgirdle_end_answer e = rushgirdle_read_end(bytes("45123456789ABCDEF01122\n"), 23);
     EXPECT(e.number == 0 && e.rows == 0x1234 && e.touches == 0x56789ABC && e.p == 0xDEF0 && e.q == 0x1122);
@@ -914,9 +931,9 @@ static void test_write(void)
     EXPECT(not_written(rushgirdle_write_query(buffer, 26, 3, 0x1234, 0x5678, 0x9ABCDEF0u, bytes("ZY"), 2), 8));
     EXPECT(wrote(rushgirdle_write_query(buffer, 600, 255, 0, 65535, 1, NULL, 0), "51FF0000FFFF0000000100\n"));
     EXPECT(not_written(rushgirdle_write_query(NULL, 0, 1, 1, 1, 1, NULL, 0), 8));
-    EXPECT(wrote(rushgirdle_write_row(buffer, 11, 0x1234, 0xAB, 0x56), "521234AB56\n"));
-    EXPECT(not_written(rushgirdle_write_row(buffer, 10, 0x1234, 0xAB, 0x56), 8));
-    EXPECT(not_written(rushgirdle_write_row(NULL, 0, 1, 2, 3), 8));
+    EXPECT(wrote(rushgirdle_write_row(buffer, 13, 0x1234, 0xAB, 0x56, 0x78), "521234AB5678\n"));
+    EXPECT(not_written(rushgirdle_write_row(buffer, 12, 0x1234, 0xAB, 0x56, 0x78), 8));
+    EXPECT(not_written(rushgirdle_write_row(NULL, 0, 1, 2, 3, 4), 8));
     EXPECT(wrote(rushgirdle_write_end(buffer, 23, 0x1234, 0x56789ABC, 0xDEF0, 0x1122), "45123456789ABCDEF01122\n"));
     EXPECT(not_written(rushgirdle_write_end(buffer, 22, 0x1234, 0x56789ABC, 0xDEF0, 0x1122), 8));
     EXPECT(not_written(rushgirdle_write_end(NULL, 0, 1, 2, 3, 4), 8));
@@ -983,15 +1000,15 @@ static void test_fences(void)
     }
 
     uint8_t *query = fenced("A", 1);
-    uint32_t *i = fenced(NULL, 8), *h = fenced(NULL, 8), *z = fenced(NULL, 8);
-    rushgirdle_search_answer a = rushgirdle_search(query, 1, 1, 1, 1, 6, w, 23, i, 2, h, 2, z, 2);
+    uint32_t *i = fenced(NULL, 8), *h = fenced(NULL, 8), *z = fenced(NULL, 8), *l = fenced(NULL, 8);
+    rushgirdle_search_answer a = rushgirdle_search(query, 1, 1, 1, 1, 6, w, 23, i, 2, h, 2, z, 2, l, 2);
     EXPECT(a.number == 0 && a.rows == 2 && a.touches == 6 && a.p == 1 && a.q == 1);
-    EXPECT(i[0] == 1 && i[1] == 2 && h[0] == 3 && h[1] == 3 && z[0] == 3 && z[1] == 3);
-    EXPECT(i[-1] == KEPT && h[-1] == KEPT && z[-1] == KEPT);
+    EXPECT(i[0] == 1 && i[1] == 2 && h[0] == 3 && h[1] == 3 && z[0] == 3 && z[1] == 3 && l[0] == 3 && l[1] == 3);
+    EXPECT(i[-1] == KEPT && h[-1] == KEPT && z[-1] == KEPT && l[-1] == KEPT);
     rushgirdle_row *r = fenced(NULL, 2 * sizeof *r);
     a = rushgirdle_search_rows(query, 1, 1, 1, 1, 6, w, 23, r, 2);
     EXPECT(a.number == 0 && a.rows == 2 && a.touches == 6 && a.p == 1 && a.q == 1);
-    EXPECT(row_is(&r[0], 1, 3, 3) && row_is(&r[1], 2, 3, 3) && row_is(&r[-1], KEPT, KEPT, KEPT));
+    EXPECT(row_is(&r[0], 1, 3, 3, 3) && row_is(&r[1], 2, 3, 3, 3) && row_is(&r[-1], KEPT, KEPT, KEPT, KEPT));
 
     /* A alone, under 5: a reading of 45 and a missing one in one week; and every shorter log */
     static const uint32_t five[19] = {1, 3, 3, 1283, 3, 16641, 0, 1, 3, 4259841, 1, 1, 3, 1090519041, 2, 1, 5, 5, 5};
@@ -1021,12 +1038,12 @@ static void test_fences(void)
         EXPECT(rushgirdle_write_query(fenced(NULL, n), n, 3, 1, 1, 1, name, 2).number == 8);
     }
     EXPECT(rushgirdle_read_name(fenced("4EABCD044C414E45\n", 17), 17, fenced(NULL, 4), 4).number == 0);
-    EXPECT(rushgirdle_read_row(fenced("521234AB56\n", 11), 11).number == 0);
+    EXPECT(rushgirdle_read_row(fenced("521234AB5678\n", 13), 13).number == 0);
     EXPECT(rushgirdle_read_end(fenced("45123456789ABCDEF01122\n", 23), 23).number == 0);
     EXPECT(rushgirdle_read_refusal(fenced("5807FEDCBA98\n", 13), 13).number == 0);
     EXPECT(rushgirdle_read_log(fenced("4C1234ABCD025A59\n", 17), 17, fenced(NULL, 2), 2).number == 0);
     EXPECT(rushgirdle_write_name(fenced(NULL, 17), 17, 1, fenced("LANE", 4), 4).number == 0);
-    EXPECT(rushgirdle_write_row(fenced(NULL, 11), 11, 1, 2, 3).number == 0);
+    EXPECT(rushgirdle_write_row(fenced(NULL, 13), 13, 1, 2, 3, 4).number == 0);
     EXPECT(rushgirdle_write_end(fenced(NULL, 23), 23, 1, 2, 3, 4).number == 0);
     EXPECT(rushgirdle_write_refusal(fenced(NULL, 13), 13, 1, 2).number == 0);
     EXPECT(rushgirdle_write_log(fenced(NULL, 17), 17, 1, 2, fenced("ZY", 2), 2).number == 0);

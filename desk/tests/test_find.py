@@ -16,12 +16,22 @@ class Find(Case):
         return [line.split()[0] for line in out.splitlines()[1:]]
 
     def test_table(self):
-        # LANE and LANES share 4 of 6 and 7 features, and so do LANE and PLANE: 8/13
+        # LANE and LANES share 4 of 6 and 7 features, and so do LANE and PLANE: 8/13. With 3 it would be 6/12 and 6/13, so 4 are needed of either size
         self.assertEqual(self.find('LANE', '--threshold', '8/13'), (
-            'id  name   similarity  decimal  shared\n'
-            '10  LANE        12/12    1.000       6\n'
-            '11  LANES        8/13    0.615       4\n'
-            '12  PLANE        8/13    0.615       4\n', '', 0))
+            'id  name   similarity  decimal  shared  least\n'
+            '10  LANE        12/12    1.000       6      4\n'
+            '11  LANES        8/13    0.615       4      4  only just\n'
+            '12  PLANE        8/13    0.615       4      4  only just\n', '', 0))
+
+    def test_only_just(self):
+        # at 1/2 LANE needs 3 of its own size, 6/12, and 4 of size 7, 8/13: 6/13 is below; at 3/7 it needs 3 of either, 6/12 and 6/13
+        for typed, least, marked in (('1/2', ['3', '4', '4'], [False, True, True]), ('3/7', ['3', '3', '3'], [False, False, False])):
+            with self.subTest(typed):
+                out, said, status = self.find('LANE', '--threshold', typed)
+                self.assertEqual((said, status), ('', 0))
+                rows = [line.split() for line in out.splitlines()[1:]]
+                self.assertEqual([row[5] for row in rows], least)
+                self.assertEqual([row[6:] == ['only', 'just'] for row in rows], marked)
 
     def test_order(self):
         # LANES has 14/14 with itself and 8/13 with LANE; with PLANE it shares 3 features, and 6/14 is below 8/13
@@ -60,7 +70,7 @@ class Find(Case):
         self.assertTrue(out.endswith(
             '\n"LANE" has x = 6 features: its groups of three letters, with two marks before it and two after it.\n'
             'A name with y features, c of them shared, is listed exactly if 2c / (x + y) is at least 8/13.\n'
-            '  id 10: y = 6, c = 6: 12/12\n  id 11: y = 7, c = 4: 8/13\n  id 12: y = 7, c = 4: 8/13\n'
+            '  id 10: y = 6, c = 6 where 4 would do: 12/12\n  id 11: y = 7, c = 4 where 4 would do: 8/13\n  id 12: y = 7, c = 4 where 4 would do: 8/13\n'
             'Decimals are rounded down. The search took 15 touches.\n'), out)
 
     def test_refusals(self):

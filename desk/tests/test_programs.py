@@ -13,15 +13,18 @@ class Lookup(Case):
         self.put('pools.csv', 'id,name\n10,LANE\n')
         self.program('importer', TAKES + GOOD)
         for name, text in (
-                ('no end', 'echo 52000A0606\n'), ('nothing', ''), ('half a line', 'printf 4500'), ('a last line without its feed', 'echo 4500000000000000010001\nprintf 580B00000000'),
-                ('an unknown line', 'echo 52000A0606\necho hello\n'), ('a line of another program', 'echo 4F010014\n'),
+                ('no end', 'echo 52000A060604\n'), ('nothing', ''), ('half a line', 'printf 4500'), ('a last line without its feed', 'echo 4500000000000000010001\nprintf 580B00000000'),
+                ('an unknown line', 'echo 52000A060604\necho hello\n'), ('a line of another program', 'echo 4F010014\n'),
                 ('one answer too few', 'echo 4500000000000000010001\n'), ('one too many', 'echo 4500000000000000010001\necho 580700000000\necho 580B00000000\n'),
-                ('a row too few', 'echo 4500010000000F0008000D\necho 580B00000000\n'), ('a row too many', 'echo 52000A0606\necho 4500000000000F0008000D\necho 580B00000000\n'),
-                ('a refusal after a row', 'echo 52000A0606\necho 580700000000\necho 580B00000000\n'), ('rows after the end', 'echo 4500000000000000010001\necho 580B00000000\necho 52000A0606\n'),
+                ('a row too few', 'echo 4500010000000F0008000D\necho 580B00000000\n'), ('a row too many', 'echo 52000A060604\necho 4500000000000F0008000D\necho 580B00000000\n'),
+                ('a refusal after a row', 'echo 52000A060604\necho 580700000000\necho 580B00000000\n'), ('rows after the end', 'echo 4500000000000000010001\necho 580B00000000\necho 52000A060604\n'),
                 ('another refusal of the last line', 'echo 4500000000000000010001\necho 580700000000\n'),
-                ('a name of no register', 'echo 52000B0606\necho 4500010000000600030005\necho 580B00000000\n'),
-                ('more shared than there is', 'echo 52000A0706\necho 4500010000000600030005\necho 580B00000000\n'),
-                ('a size of 0', 'echo 52000A0000\necho 4500010000000600030005\necho 580B00000000\n'),
+                ('a name of no register', 'echo 52000B060604\necho 4500010000000600030005\necho 580B00000000\n'),
+                ('more shared than there is', 'echo 52000A070604\necho 4500010000000600030005\necho 580B00000000\n'),
+                ('more needed than is shared', 'echo 52000A040605\necho 4500010000000600030005\necho 580B00000000\n'),
+                ('a least count of 0', 'echo 52000A060600\necho 4500010000000600030005\necho 580B00000000\n'),
+                ('a row without a least count', 'echo 52000A0606\necho 4500010000000600030005\necho 580B00000000\n'),
+                ('a size of 0', 'echo 52000A000000\necho 4500010000000600030005\necho 580B00000000\n'),
                 ('a whole answer and half a line', 'echo 4500000000000000010001\necho 580B00000000\nprintf 52\n'),
                 ('a whole answer and a status', 'echo 4500000000000000010001\necho 580B00000000\nexit 1\n')):
             with self.subTest(name):
@@ -33,7 +36,7 @@ class Lookup(Case):
     def test_the_same_without_a_fault(self):
         self.put('pools.csv', 'id,name\n10,LANE\n')
         self.program('importer', TAKES + GOOD)
-        self.program('lookup', TAKES + 'echo 52000A0606\necho 4500010000000600030005\necho 580B00000000\n')
+        self.program('lookup', TAKES + 'echo 52000A060604\necho 4500010000000600030005\necho 580B00000000\n')
         self.assertEqual(self.desk('find', '--register', 'pools.csv', 'LANE')[1:], ('', 0))
 
     def test_what_it_says_is_passed_on(self):

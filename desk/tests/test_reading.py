@@ -11,7 +11,7 @@ class Registers(Case):
             with self.subTest(name):
                 out, said, status = self.desk('find', '--register', self.put('pools.csv', text), 'LANE', '--threshold', '1')
                 self.assertEqual((said, status), ('', 0))
-                self.assertEqual(out.splitlines()[1:], ['10  LANE       12/12    1.000       6'])
+                self.assertEqual(out.splitlines()[1:], ['10  LANE       12/12    1.000       6      6  only just'])
 
     def test_names_as_they_stand(self):
         self.put('pools.csv', 'id,name\n7,"St. Mary\'s, ""Old"" Pool"\n8,Café\n')

@@ -25,7 +25,8 @@ static void look_up(const char *query, uint32_t allowance)
         words, RUSHGIRDLE_MOST_WORDS, rows, RUSHGIRDLE_MOST_NAMES);
     printf("%s, Dice 8/13, allowance %u: number %u\n", query, (unsigned)allowance, (unsigned)found.number);
     for (uint32_t k = 0; k < found.rows; k++)
-        printf("id %u shared %u size %u\n", (unsigned)rows[k].id, (unsigned)rows[k].shared, (unsigned)rows[k].size);
+        printf("id %u shared %u size %u least %u\n",
+               (unsigned)rows[k].id, (unsigned)rows[k].shared, (unsigned)rows[k].size, (unsigned)rows[k].least);
     printf("rows %u touches %u threshold %u/%u\n",
            (unsigned)found.rows, (unsigned)found.touches, (unsigned)found.p, (unsigned)found.q);
 }

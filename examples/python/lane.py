@@ -1,4 +1,4 @@
-"""Which of three registered names are like LANE? Then LANES is withdrawn, and added under another id. The answers come as three columns;
+"""Which of three registered names are like LANE? Then LANES is withdrawn, and added under another id. The answers come as four columns;
 examples/c/lane.c asks for records, and prints the same.
 
   rt staticlib surface
@@ -33,20 +33,20 @@ library.rushgirdle_add.argtypes = lent_words + [c_uint16] + read_bytes
 library.rushgirdle_withdraw.restype = c_uint8
 library.rushgirdle_withdraw.argtypes = lent_words + [c_uint16]
 library.rushgirdle_search.restype = SearchAnswer
-library.rushgirdle_search.argtypes = read_bytes + [c_uint8, c_uint16, c_uint16, c_uint32] + 4 * lent_words
+library.rushgirdle_search.argtypes = read_bytes + [c_uint8, c_uint16, c_uint16, c_uint32] + 5 * lent_words
 
 register = b"4E000A044C414E45\n4E000B054C414E4553\n4E000C05504C414E45\n"  # 10 LANE, 11 LANES, 12 PLANE
 words = (c_uint32 * MOST_WORDS)()
 
 
 def look_up(query, allowance):
-    ids, shared, sizes = ((c_uint32 * MOST_NAMES)() for _ in range(3))
+    ids, shared, sizes, least = ((c_uint32 * MOST_NAMES)() for _ in range(4))
     found = library.rushgirdle_search(
         query, len(query), DICE, 8, 13, allowance, words, MOST_WORDS,
-        ids, MOST_NAMES, shared, MOST_NAMES, sizes, MOST_NAMES)
+        ids, MOST_NAMES, shared, MOST_NAMES, sizes, MOST_NAMES, least, MOST_NAMES)
     print(f"{query.decode()}, Dice 8/13, allowance {allowance}: number {found.number}")
     for k in range(found.rows):
-        print(f"id {ids[k]} shared {shared[k]} size {sizes[k]}")
+        print(f"id {ids[k]} shared {shared[k]} size {sizes[k]} least {least[k]}")
     print(f"rows {found.rows} touches {found.touches} threshold {found.p}/{found.q}")
 
 

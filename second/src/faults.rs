@@ -17,7 +17,7 @@ pub type Lookup = fn(&[u8]) -> Vec<u8>;
 pub type Fault = (&'static str, Lookup);
 
 /// Every fault.
-pub const FAULTS: [Fault; 49] = [
+pub const FAULTS: [Fault; 54] = [
     // Lists that are short, long or out of order.
     ("list_always_empty", |input| searching(input, |words, query, rows| kept(words, query, rows, |_, _, _| false))),
     ("refused_always", |input| searching(input, |_, query, _| Answer::refused(Refusal::Allowance, query.allowance))),
@@ -30,11 +30,17 @@ pub const FAULTS: [Fault; 49] = [
     ("id_65535_lost", |input| {
         searching(input, |words, query, rows| kept(words, query, rows, |_, _, row| row.id < 65_535))
     }),
-    ("count_clipped", |input| searching(input, count_clipped)),
+    ("count_clipped", |input| searching(input, |words, query, rows| altered(words, query, rows, clipped))),
     ("sizes_not_merged", |input| searching(input, sizes_not_merged)),
     ("equal_grams_are_one", |input| {
         lookup_by(input, equal_grams_build, |w, q, r| turned(w, q, r, Turn { grams: true, ..STRAIGHT }))
     }),
+    // Least counts that are wrong or in the wrong place.
+    ("least_count_of_own_size", |input| searching(input, least_count_of_own_size)),
+    ("least_count_one_more", |input| searching(input, |words, query, rows| altered(words, query, rows, one_more))),
+    ("least_counts_not_merged", |input| searching(input, least_counts_not_merged)),
+    ("shared_and_least_swapped", |input| searching(input, |words, query, rows| altered(words, query, rows, swapped))),
+    ("least_before_size", least_before_size),
     // Numbers that are wrong.
     ("threshold_not_lowered", |input| searching(input, threshold_not_lowered)),
     ("touches_one_more", |input| searching(input, touches_one_more)),
@@ -137,19 +143,60 @@ fn above(query: &Query, _: &[AnswerRow], row: &AnswerRow) -> bool {
     })
 }
 
-fn not_of_one(query: &Query, _: &[AnswerRow], row: &AnswerRow) -> bool {
-    asked(query).is_some_and(|(measure, threshold, x)| least_count(measure, threshold, x, row.size) > 1)
+fn not_of_one(_: &Query, _: &[AnswerRow], row: &AnswerRow) -> bool {
+    row.least > 1
+}
+
+/// The true answer with each row altered.
+fn altered(words: &[u32], query: &Query, rows: &mut [AnswerRow], alter: fn(&mut AnswerRow)) -> Answer {
+    let answer = search(words, query, rows);
+    rows[..answer.rows].iter_mut().for_each(alter);
+    answer
 }
 
 /// A candidate that reaches the least count is answered with that count.
-fn count_clipped(words: &[u32], query: &Query, rows: &mut [AnswerRow]) -> Answer {
+fn clipped(row: &mut AnswerRow) {
+    row.shared = row.shared.min(row.least);
+}
+
+fn one_more(row: &mut AnswerRow) {
+    row.least += 1;
+}
+
+fn swapped(row: &mut AnswerRow) {
+    (row.shared, row.least) = (row.least, row.shared);
+}
+
+/// Each row has the least count for a name of the query's own size.
+fn least_count_of_own_size(words: &[u32], query: &Query, rows: &mut [AnswerRow]) -> Answer {
     let answer = search(words, query, rows);
     if let Some((measure, threshold, x)) = asked(query) {
         for row in &mut rows[..answer.rows] {
-            row.shared = row.shared.min(least_count(measure, threshold, x, row.size));
+            row.least = least_count(measure, threshold, x, x);
         }
     }
     answer
+}
+
+/// The least counts stay in the order of the sizes, while all else goes by id.
+fn least_counts_not_merged(words: &[u32], query: &Query, rows: &mut [AnswerRow]) -> Answer {
+    let answer = search(words, query, rows);
+    let mut by_size = rows[..answer.rows].to_vec();
+    by_size.sort_by_key(|row| (row.size, row.id));
+    for (row, other) in rows.iter_mut().zip(by_size) {
+        row.least = other.least;
+    }
+    answer
+}
+
+/// In each 52 line the least count stands before the size.
+fn least_before_size(input: &[u8]) -> Vec<u8> {
+    let output = lookup(input);
+    let turned = |line: &[u8]| match line {
+        [b'5', b'2', ..] => [&line[..8], &line[10..12], &line[8..10], &line[12..]].concat(),
+        _ => line.to_vec(),
+    };
+    lines(&output).into_iter().flat_map(turned).collect()
 }
 
 fn sizes_not_merged(words: &[u32], query: &Query, rows: &mut [AnswerRow]) -> Answer {
@@ -300,7 +347,7 @@ fn turned(words: &[u32], query: &Query, rows: &mut [AnswerRow], turn: Turn) -> A
         let (cost, counts) = turned_size(&index, size, &wanted, t, turn);
         touches += cost;
         let similar = counts.into_iter().filter(|(_, shared)| similar(measure, threshold, x, size, *shared));
-        found.extend(similar.map(|(id, shared)| AnswerRow { id, shared, size }));
+        found.extend(similar.map(|(id, shared)| AnswerRow { id, shared, size, least: t }));
     }
     found.sort_by_key(|row| row.id);
     if touches > query.allowance {

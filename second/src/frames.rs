@@ -46,6 +46,7 @@ pub struct RowFrame {
     pub id: u16,
     pub shared: u8,
     pub size: u8,
+    pub least: u8,
 }
 
 /// 45 as read. After a refusal every field is 0.
@@ -207,8 +208,10 @@ pub fn read_query(line: &[u8], buffer: &mut [u8]) -> QueryFrame {
 
 /// Reads a 52 line.
 pub fn read_row(line: &[u8]) -> RowFrame {
-    match fixed(line, ROW, 4) {
-        Some(fields) => RowFrame { number: 0, id: two(&fields[..2]), shared: fields[2], size: fields[3] },
+    match fixed(line, ROW, 5) {
+        Some(fields) => {
+            RowFrame { number: 0, id: two(&fields[..2]), shared: fields[2], size: fields[3], least: fields[4] }
+        }
         None => RowFrame { number: MALFORMED, ..RowFrame::default() },
     }
 }
@@ -315,8 +318,8 @@ pub fn write_query(measure: u8, p: u16, q: u16, allowance: u32, name: &[u8], buf
 }
 
 /// Writes a 52 line.
-pub fn write_row(id: u16, shared: u8, size: u8, buffer: &mut [u8]) -> Written {
-    put(&[&[ROW][..], &id.to_be_bytes(), &[shared, size]].concat(), buffer)
+pub fn write_row(id: u16, shared: u8, size: u8, least: u8, buffer: &mut [u8]) -> Written {
+    put(&[&[ROW][..], &id.to_be_bytes(), &[shared, size, least]].concat(), buffer)
 }
 
 /// Writes a 45 line, the threshold as given.

@@ -172,7 +172,7 @@ pub fn log_lines(log: &[u8]) -> Lines {
 /// The outcome of a typed name, by a search of its own with room for 256 rows.
 pub fn outcome_of(words: &[u32], settings: &Settings, name: &[u8]) -> Outcome {
     let Settings { measure, p, q, allowance } = *settings;
-    let mut rows = [AnswerRow { id: 0, shared: 0, size: 0 }; ROWS];
+    let mut rows = [AnswerRow { id: 0, shared: 0, size: 0, least: 0 }; ROWS];
     let answer = search(words, &Query { measure, p, q, allowance, name: name.to_vec() }, &mut rows);
     match (answer.number, &rows[..answer.rows]) {
         (0, []) => Outcome::Unresolved,

@@ -263,7 +263,7 @@ fn unresolved_as_refused(outcome: Outcome) -> Outcome {
 /// The rows of a line's search, with so much room, and its touches; or its number.
 fn rows_of(words: &[u32], settings: &Settings, name: &[u8], room: usize) -> Result<(Vec<AnswerRow>, u32), u8> {
     let Settings { measure, p, q, allowance } = *settings;
-    let mut rows = vec![AnswerRow { id: 0, shared: 0, size: 0 }; room];
+    let mut rows = vec![AnswerRow { id: 0, shared: 0, size: 0, least: 0 }; room];
     let answer = search(words, &Query { measure, p, q, allowance, name: name.to_vec() }, &mut rows);
     rows.truncate(answer.rows);
     if answer.number == 0 {

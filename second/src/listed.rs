@@ -28,11 +28,9 @@ impl Fraction {
     }
 }
 
-/// The similarity of two sets of features, for the cosine its square, which is a fraction where the cosine may not be.
-pub fn similarity(measure: Measure, one: &BTreeSet<u32>, other: &BTreeSet<u32>) -> Fraction {
-    let shared = one.intersection(other).count() as u128;
-    let (x, y) = (one.len() as u128, other.len() as u128);
-    let either = one.union(other).count() as u128;
+/// The similarity of two sets by how many features each has, both share and either has, for the cosine its square, which
+/// is a fraction where the cosine may not be.
+fn fraction(measure: Measure, x: u128, y: u128, shared: u128, either: u128) -> Fraction {
     match measure {
         Measure::Dice => Fraction { over: 2 * shared, under: x + y },
         Measure::Jaccard => Fraction { over: shared, under: either },
@@ -41,11 +39,36 @@ pub fn similarity(measure: Measure, one: &BTreeSet<u32>, other: &BTreeSet<u32>) 
     }
 }
 
+/// The similarity of two sets of features, for the cosine its square.
+pub fn similarity(measure: Measure, one: &BTreeSet<u32>, other: &BTreeSet<u32>) -> Fraction {
+    let shared = one.intersection(other).count() as u128;
+    let either = one.union(other).count() as u128;
+    fraction(measure, one.len() as u128, other.len() as u128, shared, either)
+}
+
+/// What a similarity is to reach: the threshold, for the cosine its square.
+fn wanted(measure: Measure, threshold: Threshold) -> Fraction {
+    let threshold = Fraction { over: u128::from(threshold.p()), under: u128::from(threshold.q()) };
+    if measure == Measure::Cosine {
+        threshold.squared()
+    } else {
+        threshold
+    }
+}
+
 /// Whether two sets of features are similar.
 pub fn reaches(measure: Measure, threshold: Threshold, one: &BTreeSet<u32>, other: &BTreeSet<u32>) -> bool {
-    let threshold = Fraction { over: u128::from(threshold.p()), under: u128::from(threshold.q()) };
-    let wanted = if measure == Measure::Cosine { threshold.squared() } else { threshold };
-    similarity(measure, one, other).at_least(wanted)
+    similarity(measure, one, other).at_least(wanted(measure, threshold))
+}
+
+/// The least count for two sizes: the first from 1 upward with which they are similar; 0 where they are not even with the
+/// whole of the smaller shared.
+pub fn least(measure: Measure, threshold: Threshold, x: usize, y: usize) -> usize {
+    let similar = |shared: &usize| {
+        let (x, y, shared) = (x as u128, y as u128, *shared as u128);
+        fraction(measure, x, y, shared, x + y - shared).at_least(wanted(measure, threshold))
+    };
+    (1..=x.min(y)).find(similar).unwrap_or(0)
 }
 
 /// The rows of the similar among sets of features, each with its id, in the order given.
@@ -60,6 +83,7 @@ pub fn listed(
         id: *id,
         shared: query.intersection(features).count() as u32,
         size: features.len() as u32,
+        least: least(measure, threshold, query.len(), features.len()) as u32,
     };
     similar.map(row).collect()
 }

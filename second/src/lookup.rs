@@ -50,14 +50,15 @@ pub fn answer_line(words: &[u32], line: &[u8], search: Search) -> Vec<u8> {
         allowance: frame.allowance,
         name: buffer[..usize::from(frame.length)].to_vec(),
     };
-    let mut rows = [AnswerRow { id: 0, shared: 0, size: 0 }; ROWS];
+    let mut rows = [AnswerRow { id: 0, shared: 0, size: 0, least: 0 }; ROWS];
     let answer = search(words, &query, &mut rows);
     if answer.number != 0 {
         return refused_line(answer.number, answer.touches);
     }
     let mut output = Vec::new();
     for row in &rows[..answer.rows] {
-        output.extend(written(|line| write_row(row.id as u16, row.shared as u8, row.size as u8, line)));
+        let (shared, size, least) = (row.shared as u8, row.size as u8, row.least as u8);
+        output.extend(written(|line| write_row(row.id as u16, shared, size, least, line)));
     }
     let (p, q) = (answer.p as u16, answer.q as u16);
     output.extend(written(|line| write_end(answer.rows as u16, answer.touches, p, q, line)));

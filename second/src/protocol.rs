@@ -22,7 +22,7 @@ pub const LENT_BYTE: u8 = 0xA5;
 /// What every lent word holds before a call.
 pub const LENT_WORD: u32 = 0xA5A5_A5A5;
 /// What every lent row holds before a call.
-pub const LENT_ROW: AnswerRow = AnswerRow { id: 165, shared: 165, size: 165 };
+pub const LENT_ROW: AnswerRow = AnswerRow { id: 165, shared: 165, size: 165, least: 165 };
 
 /// What every lent place of a column holds before a call.
 pub const LENT_FIELD: u32 = 165;
@@ -321,7 +321,8 @@ fn search_line(case: &mut Words<'_>) -> Result<String, String> {
     let query = Query { measure, p, q, allowance, name: case.bytes("query")? };
     let mut rows = vec![LENT_ROW; room];
     let answer = search(&case.slice()?, &query, &mut rows);
-    let rows: Vec<String> = rows.iter().map(|row| format!("{}:{}:{}", row.id, row.shared, row.size)).collect();
+    let row = |row: &AnswerRow| format!("{}:{}:{}:{}", row.id, row.shared, row.size, row.least);
+    let rows: Vec<String> = rows.iter().map(row).collect();
     let head = format!("{} {} {} {} {}", answer.number, answer.rows, answer.touches, answer.p, answer.q);
     Ok(joined(head, &spaced(&rows)))
 }
@@ -379,7 +380,7 @@ fn read_line(case: &mut Words<'_>) -> Result<String, String> {
         }
         [frames::ROW] => {
             let frame = frames::read_row(&line);
-            format!("{} {} {} {}", frame.number, frame.id, frame.shared, frame.size)
+            format!("{} {} {} {} {}", frame.number, frame.id, frame.shared, frame.size, frame.least)
         }
         [frames::END] => {
             let frame = frames::read_end(&line);
@@ -426,7 +427,7 @@ fn write_line(case: &mut Words<'_>) -> Result<String, String> {
         }
         [frames::ROW] => {
             let (id, shared, size) = (case.number("id")?, case.number("shared")?, case.number("size")?);
-            frames::write_row(id, shared, size, &mut buffer)
+            frames::write_row(id, shared, size, case.number("least")?, &mut buffer)
         }
         [frames::END] => {
             let (rows, touches) = (case.number("rows")?, case.number("touches")?);

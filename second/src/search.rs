@@ -12,6 +12,8 @@ pub struct AnswerRow {
     pub id: u32,
     pub shared: u32,
     pub size: u32,
+    /// The least count for this size and the query's.
+    pub least: u32,
 }
 
 /// What a search asks for.
@@ -107,7 +109,7 @@ pub fn search_size(index: &Index<'_>, size: u32, query: &[u32], measure: Measure
         candidates = left;
     }
 
-    let rows = candidates.iter().map(|left| AnswerRow { id: left.id, shared: left.count, size }).collect();
+    let rows = candidates.iter().map(|left| AnswerRow { id: left.id, shared: left.count, size, least: t }).collect();
     SizeSearch { least: t, postings, candidates: met, touches, rows }
 }
 

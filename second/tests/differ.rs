@@ -51,6 +51,7 @@ fn the_kept_regressions_hold() {
         (Kind::Import, "one_of_each_outcome"),
         (Kind::Importer, "one_of_each_outcome"),
         (Kind::Search, "index_with_a_tab"),
+        (Kind::Frames, "row_without_least"),
         (Kind::Good, "index_with_a_tab"),
         (Kind::Add, "example_of_the_rule"),
         (Kind::Withdraw, "example_of_the_rule"),
@@ -124,7 +125,12 @@ fn a_difference_repeats_as_printed() {
 }
 
 /// Faults that a kept regression shows, each with its kind.
-const BY_REGRESSIONS: [(&str, &str); 45] = [
+const BY_REGRESSIONS: [(&str, &str); 50] = [
+    ("lookup", "least_count_of_own_size"),
+    ("lookup", "least_count_one_more"),
+    ("lookup", "least_counts_not_merged"),
+    ("lookup", "shared_and_least_swapped"),
+    ("lookup", "least_before_size"),
     ("import", "missing_reading_counted_as_0"),
     ("import", "missing_reading_added_to_the_sum"),
     ("import", "refused_taken_as_unresolved"),

@@ -7,7 +7,7 @@ use std::collections::BTreeSet;
 use common::{index, query, register, row, LENT, LISTING};
 use second::features::{features, grams, number_at};
 use second::index::cut;
-use second::listed::{listed, reaches};
+use second::listed::{least, listed, reaches};
 use second::lookup::lookup;
 use second::measures::{least_count, searched, similar, Measure, Threshold};
 use second::search::{search, search_size, search_sizes};
@@ -65,14 +65,14 @@ fn lane_against_lanes_by_every_measure() {
         let mut rows = [LENT];
         let answer = search(&words, &query(measure, p, q, 100, b"LANE"), &mut rows);
         assert_eq!((answer.number, answer.rows), (0, usize::from(inside)), "searched: measure {measure}, {p}/{q}");
-        assert_eq!(rows[0], if inside { row(10, 4, 7) } else { LENT });
+        assert_eq!(rows[0], if inside { row(10, 4, 7, 4) } else { LENT });
     }
 }
 
 #[test]
 fn sizes_8_and_9_by_cosine_7_10() {
     let (m, t) = asked(3, 7, 10);
-    assert_eq!(least_count(m, t, 8, 9), 6);
+    assert_eq!((least_count(m, t, 8, 9), least(m, t, 8, 9)), (6, 6));
     let sizes: Vec<u32> = (3..=66).filter(|size| searched(m, t, 8, *size)).collect();
     assert_eq!(sizes, (4..=16).collect::<Vec<u32>>());
 }
@@ -82,7 +82,7 @@ fn a_least_count_of_one_still_lists() {
     let mut rows = [LENT; 2];
     let answer = search(&index(&["AC"]), &query(1, 1, 4, 1, b"AB"), &mut rows);
     assert_eq!((answer.number, answer.rows, answer.touches, answer.p, answer.q), (0, 1, 1, 1, 4));
-    assert_eq!(rows, [row(10, 1, 4), LENT]);
+    assert_eq!(rows, [row(10, 1, 4, 1), LENT]);
 }
 
 #[test]
@@ -103,7 +103,7 @@ fn the_listing_is_answered_at_15_and_refused_at_14() {
         input.extend(format!("51010008000D{allowance}044C414E45\n").bytes());
         input
     };
-    let answered = "52000A0606\n52000B0407\n52000C0407\n4500030000000F0008000D\n";
+    let answered = "52000A060604\n52000B040704\n52000C040704\n4500030000000F0008000D\n";
     assert_eq!(lookup(&input("0000000F")), answered.as_bytes());
     assert_eq!(lookup(&input("0000000E")), b"58070000000E\n");
     assert!(input("0000000F").starts_with(&register(&LISTING)));
@@ -153,7 +153,7 @@ fn equal_names_give_a_row_each() {
     // Three features; at least count 3 one of them is a signature: 2 postings, then 2 tests of 2 candidates.
     let answer = search(&index(&["A", "A"]), &query(1, 1, 1, 6, b"A"), &mut rows);
     assert_eq!((answer.number, answer.rows, answer.touches), (0, 2, 6));
-    assert_eq!(rows, [row(10, 3, 3), row(11, 3, 3), LENT]);
+    assert_eq!(rows, [row(10, 3, 3, 3), row(11, 3, 3, 3), LENT]);
 }
 
 #[test]
@@ -163,7 +163,7 @@ fn no_rows_lent_and_no_answers_is_answered() {
 }
 
 /// Register name, query, measure, p, q, shared: each lies exactly on the threshold, where a rounded least count or a
-/// similarity in floats may lose it.
+/// similarity in floats may lose it. What is shared is then the least count.
 const EXACTLY_ON: [(&str, &str, u32, u32, u32, u32); 6] = [
     ("abcdefghijcd", "abcd", 1, 3, 5, 6),
     ("abab", "ab", 1, 4, 5, 4),
@@ -179,7 +179,7 @@ fn a_name_exactly_on_the_threshold_is_listed() {
         let size = name.len() as u32 + 2;
         let (mut rows, one_up) = ([LENT], (p * 50 + 1, q * 50));
         let answer = search(&index(&[name]), &query(measure, p, q, 100, wanted.as_bytes()), &mut rows);
-        assert_eq!((answer.number, answer.rows, rows[0]), (0, 1, row(10, shared, size)), "{name} for {wanted}");
+        assert_eq!((answer.number, answer.rows, rows[0]), (0, 1, row(10, shared, size, shared)), "{name} for {wanted}");
         let answer = search(&index(&[name]), &query(measure, one_up.0, one_up.1, 100, wanted.as_bytes()), &mut rows);
         assert_eq!((answer.number, answer.rows), (0, 0), "{name} for {wanted}, just above");
     }
@@ -190,7 +190,7 @@ fn rows_come_by_id_and_not_by_size() {
     let mut rows = [LENT; 3];
     let answer = search(&index(&["LANES", "LANE", "PLANE"]), &query(1, 8, 13, 100, b"LANE"), &mut rows);
     assert_eq!((answer.number, answer.rows, answer.touches), (0, 3, 15));
-    assert_eq!(rows, [row(10, 4, 7), row(11, 6, 6), row(12, 4, 7)]);
+    assert_eq!(rows, [row(10, 4, 7, 4), row(11, 6, 6, 4), row(12, 4, 7, 4)]);
 }
 
 #[test]
@@ -198,7 +198,38 @@ fn a_candidate_that_has_reached_the_least_count_gets_its_full_count() {
     // LANE for LANE at Dice 1/2: least count 3, shared 6.
     let mut rows = [LENT];
     search(&index(&["LANE"]), &query(1, 1, 2, 100, b"LANE"), &mut rows);
-    assert_eq!(rows, [row(10, 6, 6)]);
+    assert_eq!(rows, [row(10, 6, 6, 3)]);
+}
+
+/// AAA, of size 5, against AAA, A and AA, of sizes 5, 3 and 4, with which it shares 5, 2 and 4: measure, p, q, and the
+/// least count for each of the three.
+const OF_EACH_SIZE: [(u32, u32, u32, [u32; 3]); 4] =
+    [(1, 1, 2, [3, 2, 3]), (2, 1, 3, [3, 2, 3]), (3, 1, 2, [3, 2, 3]), (4, 2, 3, [4, 2, 3])];
+
+#[test]
+fn a_row_has_the_least_count_of_its_own_size() {
+    let names = ["AAA", "A", "AA"];
+    for (measure, p, q, [of_aaa, of_a, of_aa]) in OF_EACH_SIZE {
+        let expected = [row(10, 5, 5, of_aaa), row(11, 2, 3, of_a), row(12, 4, 4, of_aa)];
+        let mut rows = [LENT; 3];
+        let answer = search(&index(&names), &query(measure, p, q, 11, b"AAA"), &mut rows);
+        assert_eq!((answer.number, answer.rows, answer.touches, rows), (0, 3, 11, expected), "measure {measure}");
+        let names: Vec<_> = (10..).zip(names).map(|(id, name)| (id, set(name))).collect();
+        let (m, t) = asked(measure, p, q);
+        assert_eq!(listed(&set("AAA"), &names, m, t), expected, "measure {measure}");
+    }
+}
+
+/// AA, of size 4, against A, of size 3, with which it shares 2, by Dice: p, q, and the least count where A is in. Up to
+/// 2/7 one shared feature is enough, and then up to 4/7 just these two.
+#[test]
+fn a_name_that_only_just_passes_shares_the_least_count() {
+    for (p, q, inside) in [(2, 7, Some(1)), (286, 1000, Some(2)), (1, 2, Some(2)), (4, 7, Some(2)), (572, 1000, None)] {
+        let mut rows = [LENT];
+        let answer = search(&index(&["A"]), &query(1, p, q, 100, b"AA"), &mut rows);
+        assert_eq!((answer.number, answer.rows), (0, usize::from(inside.is_some())), "{p}/{q}");
+        assert_eq!(rows[0], inside.map_or(LENT, |least| row(10, 2, 3, least)), "{p}/{q}");
+    }
 }
 
 /// ABC against ABD (10), ABE (11), XBC (12) and YZC (13), all of size 5, by Dice. The lists, in order: ABC none, BC0
@@ -216,7 +247,7 @@ fn ties_go_by_feature_and_hopeless_candidates_are_dropped() {
     let (m, t) = asked(1, 2, 5);
     let one = search_size(&cut, 5, &wanted, m, t);
     assert_eq!((one.least, one.postings, one.candidates, one.touches), (2, 5, 3, 8));
-    assert_eq!(search_sizes(&cut, &wanted, m, t), (8, vec![row(10, 2, 5), row(11, 2, 5), row(12, 2, 5)]));
+    assert_eq!(search_sizes(&cut, &wanted, m, t), (8, vec![row(10, 2, 5, 2), row(11, 2, 5, 2), row(12, 2, 5, 2)]));
 }
 
 #[test]
@@ -235,5 +266,5 @@ fn the_most_touches_a_search_can_cost() {
 fn the_definition_lists_what_the_listing_lists() {
     let names: Vec<_> = (10..).zip(LISTING).map(|(id, name)| (id, set(name))).collect();
     let (m, t) = asked(1, 8, 13);
-    assert_eq!(listed(&set("LANE"), &names, m, t), [row(10, 6, 6), row(11, 4, 7), row(12, 4, 7)]);
+    assert_eq!(listed(&set("LANE"), &names, m, t), [row(10, 6, 6, 4), row(11, 4, 7, 4), row(12, 4, 7, 4)]);
 }

@@ -59,15 +59,17 @@ fn whole_lines_are_read_and_written() {
         assert!(buffer[name.len()..].iter().all(|byte| *byte == LENT));
         assert_eq!(written(|buffer| write_query(measure, p, q, allowance, &name, buffer)), line.as_bytes());
     }
-    let row = |id, shared, size| RowFrame { number: 0, id, shared, size };
+    let row = |id, shared, size, least| RowFrame { number: 0, id, shared, size, least };
     for (line, frame) in [
-        ("52000A0606\n", row(10, 6, 6)),
-        ("5200000000\n", row(0, 0, 0)),
-        ("52FFFFFFFF\n", row(65_535, 255, 255)),
-        ("5201020304\n", row(0x0102, 3, 4)),
+        ("52000A060604\n", row(10, 6, 6, 4)),
+        ("52000B040704\n", row(11, 4, 7, 4)),
+        ("520000000000\n", row(0, 0, 0, 0)),
+        ("52FFFFFFFFFF\n", row(65_535, 255, 255, 255)),
+        ("520102030405\n", row(0x0102, 3, 4, 5)),
     ] {
         assert_eq!(read_row(line.as_bytes()), frame);
-        assert_eq!(written(|buffer| write_row(frame.id, frame.shared, frame.size, buffer)), line.as_bytes());
+        let again = written(|buffer| write_row(frame.id, frame.shared, frame.size, frame.least, buffer));
+        assert_eq!(again, line.as_bytes());
     }
     let end = |rows, touches, p, q| EndFrame { number: 0, rows, touches, p, q };
     for (line, frame) in [
@@ -152,7 +154,7 @@ fn whole_lines_of_an_import_are_read_and_written() {
 }
 
 /// What is wrong with a line, and the line. No reader takes it.
-const MALFORMED: [(&str, &[u8]); 57] = [
+const MALFORMED: [(&str, &[u8]); 60] = [
     ("nothing", b""),
     ("nothing but a line feed", b"\n"),
     ("4E, no line feed", b"4E000A044C414E45"),
@@ -185,8 +187,11 @@ const MALFORMED: [(&str, &[u8]); 57] = [
     ("51, length too great", b"51010008000D0000000F054C414E45\n"),
     ("51, a byte too few before the length", b"51010008000D00000F044C414E45\n"),
     ("51 alone", b"51\n"),
-    ("52, a byte too many", b"52000A060604\n"),
-    ("52, a byte too few", b"52000A06\n"),
+    ("52, a byte too many", b"52000A06060400\n"),
+    ("52, no least count", b"52000A0606\n"),
+    ("52, half a least count", b"52000A06060\n"),
+    ("52, spaces for the least count", b"52000A0606  \n"),
+    ("52, no least count and no size", b"52000A06\n"),
     ("45, a byte too many", b"4500030000000F0008000D00\n"),
     ("45, a byte too few", b"4500030000000F000800\n"),
     ("58, a byte too many", b"58070000000E00\n"),
@@ -214,7 +219,7 @@ const MALFORMED: [(&str, &[u8]); 57] = [
 
 const MALFORMED_NAME: NameFrame = NameFrame { number: 11, id: 0, length: 0 };
 const MALFORMED_QUERY: QueryFrame = QueryFrame { number: 11, measure: 0, p: 0, q: 0, allowance: 0, length: 0 };
-const MALFORMED_ROW: RowFrame = RowFrame { number: 11, id: 0, shared: 0, size: 0 };
+const MALFORMED_ROW: RowFrame = RowFrame { number: 11, id: 0, shared: 0, size: 0, least: 0 };
 const MALFORMED_END: EndFrame = EndFrame { number: 11, rows: 0, touches: 0, p: 0, q: 0 };
 const MALFORMED_LOG: LogFrame = LogFrame { number: 11, day: 0, reading: 0, length: 0 };
 const MALFORMED_REFUSED: RefusedFrame = RefusedFrame { number: 11, refusal: 0, touches: 0 };
@@ -235,6 +240,20 @@ fn malformed_lines_are_taken_by_no_reader() {
         let refused = ImportRefusedFrame { number: 11, part: 0, refusal: 0, line: 0 };
         assert_eq!(read_import_refused(line), refused, "{what}");
         assert_eq!(buffer, [LENT; 255], "{what}");
+    }
+}
+
+/// The rows of the listing, and the same without their last byte, which is the least count.
+#[test]
+fn a_row_needs_its_least_count() {
+    for (line, id, shared, size, least) in
+        [("52000A060604\n", 10, 6, 6, 4), ("52000B040704\n", 11, 4, 7, 4), ("52000C040704\n", 12, 4, 7, 4)]
+    {
+        assert_eq!(line.len(), 13);
+        assert_eq!(read_row(line.as_bytes()), RowFrame { number: 0, id, shared, size, least });
+        let without = [&line[..10], "\n"].concat();
+        assert_eq!(read_row(without.as_bytes()), MALFORMED_ROW);
+        assert_eq!(taken_by(without.as_bytes()), [11; 10]);
     }
 }
 
@@ -260,7 +279,7 @@ fn a_reader_takes_its_own_kind_alone() {
     let lines = [
         "4E000A044C414E45\n",
         "51010008000D0000000F044C414E45\n",
-        "52000A0606\n",
+        "52000A060604\n",
         "4500030000000F0008000D\n",
         "58070000000E\n",
         "4C0007002D044C414E45\n",
@@ -290,7 +309,7 @@ fn read_and_written(line: &[u8]) -> Option<Vec<u8>> {
     }
     let (row, end, refused) = (read_row(line), read_end(line), read_refused(line));
     match (row.number, end.number, refused.number) {
-        (0, ..) => Some(written(|line| write_row(row.id, row.shared, row.size, line))),
+        (0, ..) => Some(written(|line| write_row(row.id, row.shared, row.size, row.least, line))),
         (_, 0, _) => Some(written(|line| write_end(end.rows, end.touches, end.p, end.q, line))),
         (.., 0) => Some(written(|line| write_refused(refused.refusal, refused.touches, line))),
         _ => import_read_and_written(line),
@@ -321,7 +340,7 @@ fn one_byte_changed_anywhere() {
     let lines: [&[u8]; 10] = [
         b"4E000A024C41\n",
         b"51010008000D0000000F0141\n",
-        b"52000A0606\n",
+        b"52000A060604\n",
         b"4500030000000F0008000D\n",
         b"58070000000E\n",
         b"4C0007002D0141\n",
@@ -409,7 +428,7 @@ fn a_line_needs_room() {
         (Box::new(|line| write_name(10, &long[..255], line)), 519),
         (Box::new(|line| write_query(1, 8, 13, 15, b"LANE", line)), 31),
         (Box::new(|line| write_query(1, 8, 13, 15, &long[..255], line)), 533),
-        (Box::new(|line| write_row(10, 6, 6, line)), 11),
+        (Box::new(|line| write_row(10, 6, 6, 4, line)), 13),
         (Box::new(|line| write_end(3, 15, 8, 13, line)), 23),
         (Box::new(|line| write_refused(7, 14, line)), 13),
         (Box::new(|line| write_log(7, 45, b"LANE", line)), 21),

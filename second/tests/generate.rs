@@ -132,7 +132,7 @@ fn damage_makes_a_line_malformed() {
     let whole: [(&[u8], Reader); 10] = [
         (b"4E000A044C414E45\n", |line| read_name(line, &mut [0; 255]).number),
         (b"51010008000D0000000F044C414E45\n", |line| read_query(line, &mut [0; 255]).number),
-        (b"52000A0606\n", |line| read_row(line).number),
+        (b"52000A060604\n", |line| read_row(line).number),
         (b"4500030000000F0008000D\n", |line| read_end(line).number),
         (b"58070000000E\n", |line| read_refused(line).number),
         (b"4C0007002D044C414E45\n", |line| read_log(line, &mut [0; 255]).number),
@@ -365,7 +365,7 @@ fn tally_query(tally: &mut Tally, line: &[u8], names: &[second::build::Registere
     if query.name.contains(&0) && query.name.iter().any(|byte| *byte != 0 && control(*byte)) {
         tally.count("a query with a 0 byte and another control character");
     }
-    let empty = second::search::AnswerRow { id: 0, shared: 0, size: 0 };
+    let empty = second::search::AnswerRow { id: 0, shared: 0, size: 0, least: 0 };
     let mut rows = [empty; 256];
     let answer = second::search::search(words, &query, &mut rows);
     tally.count(format!("query {}", answer.number));
@@ -399,8 +399,18 @@ fn tally_query(tally: &mut Tally, line: &[u8], names: &[second::build::Registere
         if likeness.over * q == p * likeness.under {
             tally.count(format!("on the threshold, measure {}", query.measure));
         }
-        if least_count(measure, threshold, wanted.len() as u32, row.size) == 1 {
-            tally.count("a row at least count 1");
+        let least = least_count(measure, threshold, wanted.len() as u32, row.size);
+        let own = least_count(measure, threshold, wanted.len() as u32, wanted.len() as u32);
+        for (is_so, what) in [
+            (least == 1, "a row at least count 1"),
+            (least > 1 && row.shared == least, "a row that shares just the least count"),
+            (row.shared > least, "a row that shares more than the least count"),
+            (least < own, "a least count below that of the query's own size"),
+            (least > own, "a least count above that of the query's own size"),
+        ] {
+            if is_so {
+                tally.count(what);
+            }
         }
     }
     let listed: Vec<&Vec<u8>> = rows[..whole.rows].iter().map(|row| shown[&row.id]).collect();
@@ -410,9 +420,12 @@ fn tally_query(tally: &mut Tally, line: &[u8], names: &[second::build::Registere
     if rows[..whole.rows].windows(2).any(|two| two[0].size > two[1].size) {
         tally.count("rows whose order is not that of the sizes");
     }
+    if rows[..whole.rows].windows(2).any(|two| two[0].least > two[1].least) {
+        tally.count("rows whose order is not that of the least counts");
+    }
 }
 
-const NEEDED: [&str; 48] = [
+const NEEDED: [&str; 53] = [
     "65535 bytes",
     "65536 bytes",
     "65537 bytes",
@@ -458,9 +471,14 @@ const NEEDED: [&str; 48] = [
     "on the threshold, measure 3",
     "on the threshold, measure 4",
     "a row at least count 1",
+    "a row that shares just the least count",
+    "a row that shares more than the least count",
+    "a least count below that of the query's own size",
+    "a least count above that of the query's own size",
     "256 rows",
     "equal names listed",
     "rows whose order is not that of the sizes",
+    "rows whose order is not that of the least counts",
 ];
 
 #[test]
@@ -673,7 +691,7 @@ fn tally_index(tally: &mut Tally, case: &ImportCase) {
             allowance: case.settings.allowance,
             name,
         };
-        let mut rows = [second::search::AnswerRow { id: 0, shared: 0, size: 0 }; 256];
+        let mut rows = [second::search::AnswerRow { id: 0, shared: 0, size: 0, least: 0 }; 256];
         for line in lines(&case.log).into_iter().filter_map(log_line) {
             if second::search::search(&case.words, &query(line.name), &mut rows).rows == 256 {
                 tally.count("a line that lists 256 names");

@@ -1,5 +1,6 @@
 //! The measures: what the rule says of sizes and least counts, for every pair of sizes.
 
+use second::listed::least;
 use second::measures::{least_count, searched, similar, Measure, Threshold, MEASURES};
 
 /// Thresholds with small terms, all of them, and some with great ones.
@@ -46,6 +47,20 @@ fn the_least_count_is_the_first_from_1_upward() {
                     (1..t).all(|c| !similar(measure, threshold, x, y, c)),
                     "{measure:?} {threshold:?} {x} {y}: {t}"
                 );
+            }
+        }
+    }
+}
+
+/// The least count by products and by fractions. Where a size is not searched there is none up to the smaller size.
+#[test]
+fn the_least_count_is_that_of_the_definition() {
+    for measure in MEASURES {
+        for threshold in thresholds() {
+            for (x, y) in (3..=66).flat_map(|x| (3..=66).map(move |y| (x, y))) {
+                let t = if searched(measure, threshold, x, y) { least_count(measure, threshold, x, y) } else { 0 };
+                let by_definition = least(measure, threshold, x as usize, y as usize);
+                assert_eq!(t as usize, by_definition, "{measure:?} {threshold:?} {x} {y}");
             }
         }
     }

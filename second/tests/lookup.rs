@@ -13,7 +13,7 @@ const R: &str = "4E000A044C414E45\n";
 /// LANE by Dice 1/1. Least count 6: one signature of one posting, then five tests: 6 touches.
 const Q: &str = "510100010001000000FF044C414E45\n";
 /// The answer to Q after R.
-const A: &str = "52000A0606\n4500010000000600010001\n";
+const A: &str = "52000A060606\n4500010000000600010001\n";
 /// What a line among the queries that is no 51 frame gives.
 const B: &str = "580B00000000\n";
 
@@ -54,7 +54,7 @@ const WHOLE: [(&str, &[&str], &[&str]); 32] = [
     ("threshold 1/1001", &[R, "5101000103E9000000FF0141\n", Q], &["580500000000\n", A]),
     ("an allowance of 5 where 6 are needed", &[R, "51010001000100000005044C414E45\n", Q], &["580700000005\n", A]),
     // 70/100 is reported as 7/10. Sizes 6 and 6: least count 5, signatures 2 of one posting each, 4 tests.
-    ("lowest terms", &[R, "510100460064000000FF044C414E45\n"], &["52000A0606\n450001000000060007000A\n"]),
+    ("lowest terms", &[R, "510100460064000000FF044C414E45\n"], &["52000A060605\n450001000000060007000A\n"]),
 ];
 
 #[test]
@@ -79,8 +79,8 @@ fn long_queries() {
 #[test]
 fn refused_registers() {
     let names = |count: u16| (0..count).flat_map(|id| name_line(id, b"A")).collect::<Vec<u8>>();
-    // 256 rows: one signature of 256 postings, then two tests of 256 candidates.
-    let all: String = (0..256).map(|id| format!("52{id:04X}0303\n")).collect::<String>() + "4501000000030000010001\n";
+    // 256 rows, least count 3: one signature of 256 postings, then two tests of 256 candidates.
+    let all: String = (0..256).map(|id| format!("52{id:04X}030303\n")).collect::<String>() + "4501000000030000010001\n";
     let vectors = [
         ("a name of 65 bytes", name_line(1, &[b'A'; 65]), "580200000000\n".to_string()),
         ("a name of 255 bytes", name_line(1, &[b'A'; 255]), "580200000000\n".to_string()),

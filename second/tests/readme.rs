@@ -31,7 +31,7 @@ fn examples_give_what_is_printed() {
 }
 
 /// What does not follow a protocol, and what is said of it.
-const REFUSED: [(Kind, &str, &str); 20] = [
+const REFUSED: [(Kind, &str, &str); 22] = [
     (Kind::Features, "4C4\n", "line 1: name is 4C4"),
     (Kind::Features, "4C 41\n", "line 1: 41 is one too many"),
     (Kind::Features, "4C\n\n", "line 2: no name"),
@@ -40,7 +40,9 @@ const REFUSED: [(Kind, &str, &str); 20] = [
     (Kind::Likeness, "1 8 13 6 7\n", "line 1: no c"),
     (Kind::Frames, "look\n", "line 1: look is neither read nor write"),
     (Kind::Frames, "read 4D 0 -\n", "line 1: no such kind"),
-    (Kind::Frames, "write 52 12 65536 6 6\n", "line 1: id is 65536"),
+    (Kind::Frames, "write 52 14 65536 6 6 4\n", "line 1: id is 65536"),
+    (Kind::Frames, "write 52 14 10 6 6\n", "line 1: no least"),
+    (Kind::Frames, "write 52 14 10 6 6 256\n", "line 1: least is 256"),
     (Kind::LogFrames, "write 4C 12 65536 6 6\n", "line 1: day is 65536"),
     (Kind::Import, "1 1 1 6 0 -\n", "line 1: pairs is -"),
     (Kind::Import, "1 1 1 6 0 0\n", "line 1: no log"),

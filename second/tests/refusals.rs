@@ -70,7 +70,7 @@ fn searches_one_by_one() {
         assert_eq!((answer.number, answer.touches), (number, touches), "{what}");
         if number == 0 {
             assert_eq!((answer.rows, answer.p, answer.q), (3, 8, 13), "{what}");
-            assert_eq!(rows, [row(10, 6, 6), row(11, 4, 7), row(12, 4, 7)]);
+            assert_eq!(rows, [row(10, 6, 6, 4), row(11, 4, 7, 4), row(12, 4, 7, 4)]);
         } else {
             assert_eq!((answer.rows, answer.p, answer.q), (0, 0, 0), "{what}");
             assert!(rows.iter().all(|row| *row == LENT), "{what}");
@@ -119,7 +119,7 @@ fn registers() -> Vec<(&'static str, Vec<u8>, u8, usize)> {
         ("one byte after the last line feed", after(b"4"), 11, 3),
         ("a carriage return", after(b"4E000C0141\r\n"), 11, 3),
         ("a query among the names", [&lane[..], b"51010001000100000000014C\n", &lanes].concat(), 11, 2),
-        ("a row frame", after(b"52000A0606\n"), 11, 3),
+        ("a row frame", after(b"52000A060604\n"), 11, 3),
         ("an empty name", after(&name_line(12, b"")), 1, 3),
         ("a name of 65 bytes", after(&name_line(12, &[b'A'; 65])), 2, 3),
         ("a name of 255 bytes", after(&name_line(12, &[b'A'; 255])), 2, 3),

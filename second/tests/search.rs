@@ -11,7 +11,7 @@ use second::measures::{least_count, searched, similar, Measure, Threshold, MEASU
 use second::random::Random;
 use second::search::{judged, search, search_size, search_sizes, AnswerRow, Query};
 
-const LENT: AnswerRow = AnswerRow { id: 7, shared: 7, size: 7 };
+const LENT: AnswerRow = AnswerRow { id: 7, shared: 7, size: 7, least: 7 };
 
 fn thresholds(random: &mut Random) -> Vec<Threshold> {
     let fixed = [(1, 1000), (1, 4), (1, 2), (617, 1000), (7, 10), (9, 10), (1, 1)];
@@ -63,6 +63,7 @@ fn held_to_the_definition(index: &Index<'_>, wanted: &[u32], measure: Measure, t
         let fewest: usize = lengths[..(x + 1 - one.least) as usize].iter().sum();
         assert_eq!(one.postings as usize, fewest);
         assert!(one.rows.iter().all(|row| similar(measure, threshold, x, size, row.shared)));
+        assert!(one.rows.iter().all(|row| (row.size, row.least) == (size, one.least) && row.shared >= row.least));
         all += one.touches;
     }
     assert_eq!(touches, all);
@@ -163,7 +164,8 @@ fn a_name_with_a_control_character_is_searched() {
     let mut rows = vec![LENT; 2];
     let answer = search(&words, &query, &mut rows);
     assert_eq!((answer.number, answer.rows, answer.touches), (0, 2, 10));
-    assert_eq!(rows, [AnswerRow { id: 5, shared: 4, size: 7 }, AnswerRow { id: 6, shared: 6, size: 6 }]);
+    let of_lane = AnswerRow { id: 6, shared: 6, size: 6, least: 4 };
+    assert_eq!(rows, [AnswerRow { id: 5, shared: 4, size: 7, least: 4 }, of_lane]);
 }
 
 /// Features of an index need not come from any name: the search asks for a query's own features alone.
@@ -173,5 +175,5 @@ fn features_of_no_name_are_never_met() {
     let words = second::build::words_of(&names);
     let index = cut(&words).unwrap();
     let (touches, rows) = search_sizes(&index, &features(b"A"), Measure::Overlap, Threshold::of(1, 3).unwrap());
-    assert_eq!((touches, rows), (1, vec![AnswerRow { id: 2, shared: 1, size: 3 }]));
+    assert_eq!((touches, rows), (1, vec![AnswerRow { id: 2, shared: 1, size: 3, least: 1 }]));
 }

@@ -20,10 +20,11 @@ use Rattle.fields.specs.Layouts.{isFrame, nameIn, readOf, bufferOf, acceptedAs,
 use Rattle.fields.proofs.Laws.{read-roomy}
 use Rattle.frames.specs.declared.QueryRead.{QueryRead}
 use Rattle.frames.specs.Frames.{queryFrame, queryOut}
+use Rattle.likeness.proofs.Least.{least-most}
 use Rattle.words.specs.Words.{nameCount, nameId, nameSize}
 use Rattle.index.proofs.Laws.{good-name-within}
 use Rattle.sizes.specs.Method.{sharedWith, answersOf}
-use Rattle.search.specs.Answers.{numberIn, rowsIn, searchOf, Columns, roomOf, columnsOf, over, columnsOver, placesGiven, Searched}
+use Rattle.search.specs.Answers.{numberIn, rowsIn, searchOf, Columns, roomOf, leastFor, columnsOf, over, columnsOver, placesGiven, Searched}
 use Rattle.search.specs.declared.Answer.{Answer}
 use Rattle.search.specs.declared.Answer.the-variants.{Found, Refused}
 use Rattle.search.proofs.Outcomes.{refused-empty, given-found, Answered, answered, shared-most}
@@ -99,12 +100,12 @@ module _ (line buffer after : List ℕ) (r : QueryRead) (room : length buffer �
 
 -- columns that agree up to n give equal lines
 Agree : Columns → Columns → ℕ → Type 0
-Agree c d n = (k : ℕ) → k < n → (getD (c .ids) k 0 ≡ getD (d .ids) k 0) × (getD (c .shared) k 0 ≡ getD (d .shared) k 0) × (getD (c .sizes) k 0 ≡ getD (d .sizes) k 0)
+Agree c d n = (k : ℕ) → k < n → (getD (c .ids) k 0 ≡ getD (d .ids) k 0) × (getD (c .shared) k 0 ≡ getD (d .shared) k 0) × (getD (c .sizes) k 0 ≡ getD (d .sizes) k 0) × (getD (c .least) k 0 ≡ getD (d .least) k 0)
 
 rows-same : (c d : Columns) (n : ℕ) → Agree c d n → rowsText c n ≡ rowsText d n
 unfolding Agree
 rows-same c d n e =
-    ap joined (tabulate-ext (rowText c) (rowText d) n (λ k h. let g = e k h in λ t. rowLine (g .0 t) (g .1 t) (g .2 t)))
+    ap joined (tabulate-ext (rowText c) (rowText d) n (λ k h. let g = e k h in λ t. rowLine (g .0 t) (g .1 t) (g .2 t) (g .3 t)))
 
 text-agrees : (r : Answer) (c d : Columns) → (numberIn r ≡ 0 → Agree c d (rowsIn r)) → answerText r c ≡ answerText r d
 unfolding answerText foundText
@@ -128,11 +129,11 @@ module _ (s : List ℕ) (m p q allowance : ℕ) (w : List ℕ) (before after : C
   rows n = ap rowsIn (asked ∙ facts n .form)
 
   -- the columns of an answer
-  left : numberIn r ≡ 0 → after ≡ columnsOver (columnsOf w (featuresOf s) places) before
+  left : numberIn r ≡ 0 → after ≡ columnsOver (columnsOf w m p q (featuresOf s) places) before
   unfolding places
   left n =
       searched .columns
-      ∙ ap (λ (l : List ℕ). columnsOver (columnsOf w (featuresOf s) l) before)
+      ∙ ap (λ (l : List ℕ). columnsOver (columnsOf w m p q (featuresOf s) l) before)
       (given-found (searchOf s m p q allowance w (roomOf before)) _ _ _ _ (answersOf w m p q (featuresOf s)) (sym (searched .answer) ∙ asked ∙ facts n .form))
 
   -- a column at row k
@@ -152,7 +153,7 @@ module _ (s : List ℕ) (m p q allowance : ℕ) (w : List ℕ) (before after : C
       let c = rows n in
       answer-place w m p q (featuresOf s) (getD (answersOf w m p q (featuresOf s)) k 0) (member-at (answersOf w m p q (featuresOf s)) k (omega arith)) .0
 
-  shown-left : numberIn r ≡ 0 → Shown (columnsOver (columnsOf w (featuresOf s) places) before) (rowsIn r)
+  shown-left : numberIn r ≡ 0 → Shown (columnsOver (columnsOf w m p q (featuresOf s) places) before) (rowsIn r)
   shown-left n =
       let c = rows n in
       let fits = facts n .fits in
@@ -162,9 +163,11 @@ module _ (s : List ℕ) (m p q allowance : ℕ) (w : List ℕ) (before after : C
         in-ids = long (nameId w) (before .ids) n;
         in-shared = long (sharedWith w (featuresOf s)) (before .shared) n;
         in-sizes = long (nameSize w) (before .sizes) n;
+        in-least = long (leastFor w m p q (featuresOf s)) (before .least) n;
         id = λ k h. (let e = at (nameId w) (before .ids) n k h in let b = good-name-within w good _ (name n k h) in let b0 = b .0 in omega arith);
         share = λ k h. (let e = at (sharedWith w (featuresOf s)) (before .shared) n k h in let b = shared-most w (featuresOf s) (getD places k 0) in let d = size-most s in omega arith);
         size = λ k h. (let e = at (nameSize w) (before .sizes) n k h in let b = good-name-within w good _ (name n k h) in let b2 = b .2 in omega arith);
+        least = λ k h. (let e = at (leastFor w m p q (featuresOf s)) (before .least) n k h in let b = good-name-within w good _ (name n k h) in let b2 = b .2 in let d = size-most s in let l = least-most m p q (length (featuresOf s)) (nameSize w (getD places k 0)) (facts n .admitted .known) (facts n .admitted .exact) in omega arith);
       }
 
   pub shown : Shown after (rowsIn r)
@@ -178,22 +181,24 @@ module _ (s : List ℕ) (m p q allowance : ℕ) (w : List ℕ) (before after : C
         in-ids = omega arith;
         in-shared = omega arith;
         in-sizes = omega arith;
+        in-least = omega arith;
         id = λ k h. absurd (omega arith);
         share = λ k h. absurd (omega arith);
         size = λ k h. absurd (omega arith);
+        least = λ k h. absurd (omega arith);
       })
       (eq-or-ne (numberIn r) 0)
 
   -- the text of the lent columns is that of the given rows
-  pub text-same : answerText r after ≡ answerText r (columnsOf w (featuresOf s) (placesGiven s m p q allowance w rowsLent))
+  pub text-same : answerText r after ≡ answerText r (columnsOf w m p q (featuresOf s) (placesGiven s m p q allowance w rowsLent))
   unfolding places Agree
   text-same =
-      text-agrees r after (columnsOf w (featuresOf s) (placesGiven s m p q allowance w rowsLent))
+      text-agrees r after (columnsOf w m p q (featuresOf s) (placesGiven s m p q allowance w rowsLent))
       (λ n.
       let given = given-found (searchOf s m p q allowance w rowsLent) _ _ _ _ (answersOf w m p q (featuresOf s)) (facts n .form) in
-      subst (λ (c : Columns). Agree c (columnsOf w (featuresOf s) (placesGiven s m p q allowance w rowsLent)) (rowsIn r)) (sym (left n))
-      (subst (λ (l : List ℕ). Agree (columnsOver (columnsOf w (featuresOf s) (answersOf w m p q (featuresOf s))) before) (columnsOf w (featuresOf s) l) (rowsIn r)) (sym given)
-      (λ k h. (start (nameId w) (before .ids) n k h, start (sharedWith w (featuresOf s)) (before .shared) n k h, start (nameSize w) (before .sizes) n k h))))
+      subst (λ (c : Columns). Agree c (columnsOf w m p q (featuresOf s) (placesGiven s m p q allowance w rowsLent)) (rowsIn r)) (sym (left n))
+      (subst (λ (l : List ℕ). Agree (columnsOver (columnsOf w m p q (featuresOf s) (answersOf w m p q (featuresOf s))) before) (columnsOf w m p q (featuresOf s) l) (rowsIn r)) (sym given)
+      (λ k h. (start (nameId w) (before .ids) n k h, start (sharedWith w (featuresOf s)) (before .shared) n k h, start (nameSize w) (before .sizes) n k h, start (leastFor w m p q (featuresOf s)) (before .least) n k h))))
     where
       start : (f : ℕ → ℕ) (l : List ℕ) → numberIn r ≡ 0 → (k : ℕ) → k < rowsIn r
           → getD (over (map f (answersOf w m p q (featuresOf s))) l) k 0 ≡ getD (map f (answersOf w m p q (featuresOf s))) k 0
@@ -205,11 +210,11 @@ module _ (s : List ℕ) (m p q allowance : ℕ) (w : List ℕ) (before after : C
   -- and so that of the 51 line which asks for the search
   pub answer-as : (line : List ℕ) → isFrame queryFrame line ≡ true → s ≡ queryIn line → m ≡ measureIn line → p ≡ pIn line → q ≡ qIn line
       → allowance ≡ allowanceIn line → answerText r after ≡ answerOf w line
-  answer-as line f es em ep eq ea = text-same ∙ ap (λ (x : Answer). answerText x (columnsOf w (featuresOf s) (placesGiven s m p q allowance w rowsLent))) asked ∙ same
+  answer-as line f es em ep eq ea = text-same ∙ ap (λ (x : Answer). answerText x (columnsOf w m p q (featuresOf s) (placesGiven s m p q allowance w rowsLent))) asked ∙ same
     where
-      same : answerText (searchOf s m p q allowance w rowsLent) (columnsOf w (featuresOf s) (placesGiven s m p q allowance w rowsLent)) ≡ answerOf w line
+      same : answerText (searchOf s m p q allowance w rowsLent) (columnsOf w m p q (featuresOf s) (placesGiven s m p q allowance w rowsLent)) ≡ answerOf w line
       same = unfold answerOf in rw (f, es, em, ep, eq, ea) refl
 
 -- the room of columns of as many rows as are lent
-pub room-lent : (c : Columns) → length (c .ids) ≡ rowsLent → length (c .shared) ≡ rowsLent → length (c .sizes) ≡ rowsLent → roomOf c ≡ rowsLent
-room-lent c e f g = rw (e, f, g) refl
+pub room-lent : (c : Columns) → length (c .ids) ≡ rowsLent → length (c .shared) ≡ rowsLent → length (c .sizes) ≡ rowsLent → length (c .least) ≡ rowsLent → roomOf c ≡ rowsLent
+room-lent c e f g h = rw (e, f, g, h) refl

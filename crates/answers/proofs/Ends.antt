@@ -39,14 +39,14 @@ or-false a b p q = rw (p, q) refl
 or-left : (a b : Bool) → a ≡ true → a || b ≡ true
 or-left a b p = rw p refl
 
-pub row-goes-on : (id shared size : ℕ) → endsAnswer (rowLine id shared size) ≡ false
+pub row-goes-on : (id shared size least : ℕ) → endsAnswer (rowLine id shared size least) ≡ false
 unfolding endsAnswer
-row-goes-on id shared size =
-    or-false (isFrame endFrame (rowLine id shared size)) (isFrame refusalFrame (rowLine id shared size))
-    (frame-other endFrame (rowLine id shared size) (λ e. let k = kind in omega arith))
-    (frame-other refusalFrame (rowLine id shared size) (λ e. let k = kind in omega arith))
+row-goes-on id shared size least =
+    or-false (isFrame endFrame (rowLine id shared size least)) (isFrame refusalFrame (rowLine id shared size least))
+    (frame-other endFrame (rowLine id shared size least) (λ e. let k = kind in omega arith))
+    (frame-other refusalFrame (rowLine id shared size least) (λ e. let k = kind in omega arith))
   where
-    kind : getD (bytesOf (rowLine id shared size)) 0 0 ≡ 82
+    kind : getD (bytesOf (rowLine id shared size least)) 0 0 ≡ 82
     kind = unfold lineOf hexLine hexOf bytesOf digitOf valueOf placeIn in refl
 
 pub end-ends : (rows touches p q : ℕ) → endsAnswer (endLine rows touches p q) ≡ true
@@ -94,7 +94,7 @@ module _ (c : Columns) where
   rows-go-on zero = refl
   rows-go-on (suc n) =
       count-append endsAnswer (tabulate (rowText c) n) (rowText c n ∷ [])
-      ∙ ap₂ _+_ (rows-go-on n) (ap (λ (b : Bool). cond b 1 0 + 0) (row-goes-on (getD (c .ids) n 0) (getD (c .shared) n 0) (getD (c .sizes) n 0)))
+      ∙ ap₂ _+_ (rows-go-on n) (ap (λ (b : Bool). cond b 1 0 + 0) (row-goes-on (getD (c .ids) n 0) (getD (c .shared) n 0) (getD (c .sizes) n 0) (getD (c .least) n 0)))
 
   answer-joined : (r : Answer) → answerText r c ≡ joined (answerLines r c)
   unfolding answerText foundText answerLines joined
@@ -109,7 +109,7 @@ module _ (c : Columns) where
         before = tabulate (rowText c) rows;
         last = endLine rows touches p q;
         split = refl;
-        each = each-tabulate Line (rowText c) rows (λ k h. one-line rowFrame (getD (c .ids) k 0 ∷ getD (c .shared) k 0 ∷ getD (c .sizes) k 0 ∷ []));
+        each = each-tabulate Line (rowText c) rows (λ k h. one-line rowFrame (getD (c .ids) k 0 ∷ getD (c .shared) k 0 ∷ getD (c .sizes) k 0 ∷ getD (c .least) k 0 ∷ []));
         line = one-line endFrame (rows ∷ touches ∷ p ∷ q ∷ []);
         passes = end-ends rows touches p q;
       }

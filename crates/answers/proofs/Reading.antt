@@ -35,8 +35,8 @@ use Rattle.answers.proofs.Text.{length-found}
 -- ---- each line reads back
 
 pub reads-row : (c : Columns) (n : ℕ) → Shown c n → (k : ℕ) → k < n
-    → readOf rowFrame (rowText c k) 0 ≡ rowOut (Row (getD (c .ids) k 0) (getD (c .shared) k 0) (getD (c .sizes) k 0))
-reads-row c n s k h = read-write-row (getD (c .ids) k 0) (getD (c .shared) k 0) (getD (c .sizes) k 0) (s .id k h) (s .share k h) (s .size k h)
+    → readOf rowFrame (rowText c k) 0 ≡ rowOut (Row (getD (c .ids) k 0) (getD (c .shared) k 0) (getD (c .sizes) k 0) (getD (c .least) k 0))
+reads-row c n s k h = read-write-row (getD (c .ids) k 0) (getD (c .shared) k 0) (getD (c .sizes) k 0) (getD (c .least) k 0) (s .id k h) (s .share k h) (s .size k h) (s .least k h)
 
 -- the end of an answered search, whose allowance fits 32 bits
 pub reads-end : (w line : List ℕ) → allowanceIn line < 4294967296 → numberIn (searchFor w line) ≡ 0

@@ -19,9 +19,9 @@ use Rattle.search.specs.declared.Answer.the-variants.{Found, Refused}
 
 -- ---- how long the lines are
 
-pub length-row : (id shared size : ℕ) → length (rowLine id shared size) ≡ rowLineLength
+pub length-row : (id shared size least : ℕ) → length (rowLine id shared size least) ≡ rowLineLength
 unfolding lineOf hexLine hexOf fieldBytes nameBytes bytesFor
-length-row id shared size = refl
+length-row id shared size least = refl
 
 pub length-end : (rows touches p q : ℕ) → length (endLine rows touches p q) ≡ endLineLength
 unfolding lineOf hexLine hexOf fieldBytes nameBytes bytesFor
@@ -29,13 +29,13 @@ length-end rows touches p q = refl
 
 -- those of rows, wherever they stand, are all as long
 pub row-even : (c : Columns) (k : ℕ) → length (rowText c k) ≡ rowLineLength
-row-even c k = length-row (getD (c .ids) k 0) (getD (c .shared) k 0) (getD (c .sizes) k 0)
+row-even c k = length-row (getD (c .ids) k 0) (getD (c .shared) k 0) (getD (c .sizes) k 0) (getD (c .least) k 0)
 
 pub length-rows : (c : Columns) (n : ℕ) → length (rowsText c n) ≡ rowLineLength * n
 length-rows c n = length-texts (rowText c) rowLineLength (row-even c) n
 
-pub row-exact : (id shared size : ℕ) (out : List ℕ) → length out ≡ rowLineLength → outOf rowFrame (id ∷ shared ∷ size ∷ []) [] out ≡ rowLine id shared size
-row-exact id shared size out e = out-exact rowFrame (id ∷ shared ∷ size ∷ []) out (length-row id shared size ∙ sym e)
+pub row-exact : (id shared size least : ℕ) (out : List ℕ) → length out ≡ rowLineLength → outOf rowFrame (id ∷ shared ∷ size ∷ least ∷ []) [] out ≡ rowLine id shared size least
+row-exact id shared size least out e = out-exact rowFrame (id ∷ shared ∷ size ∷ least ∷ []) out (length-row id shared size least ∙ sym e)
 
 -- ---- the rows and their end
 

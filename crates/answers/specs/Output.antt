@@ -64,8 +64,8 @@ openWords input words = cond (ltb mostInput (length input)) (replicate (length w
 
 -- ---- an answer
 
-abbrev pub rowLine : ℕ → ℕ → ℕ → List ℕ
-rowLine id shared size = lineOf rowFrame (id ∷ shared ∷ size ∷ []) []
+abbrev pub rowLine : ℕ → ℕ → ℕ → ℕ → List ℕ
+rowLine id shared size least = lineOf rowFrame (id ∷ shared ∷ size ∷ least ∷ []) []
 
 abbrev pub endLine : ℕ → ℕ → ℕ → ℕ → List ℕ
 endLine rows touches p q = lineOf endFrame (rows ∷ touches ∷ p ∷ q ∷ []) []
@@ -75,7 +75,7 @@ refusalLine number touches = lineOf refusalFrame (number ∷ touches ∷ []) []
 
 -- the line of row k of some columns
 abbrev pub rowText : Columns → ℕ → List ℕ
-rowText c k = rowLine (getD (c .ids) k 0) (getD (c .shared) k 0) (getD (c .sizes) k 0)
+rowText c k = rowLine (getD (c .ids) k 0) (getD (c .shared) k 0) (getD (c .sizes) k 0) (getD (c .least) k 0)
 
 -- the lines of the first n rows
 abbrev pub rowsText : Columns → ℕ → List ℕ
@@ -124,7 +124,7 @@ placesFor w line = placesGiven (queryIn line) (measureIn line) (pIn line) (qIn l
 
 -- and their rows
 abbrev pub columnsFor : List ℕ → List ℕ → Columns
-columnsFor w line = columnsOf w (featuresOf (queryIn line)) (placesFor w line)
+columnsFor w line = columnsOf w (measureIn line) (pIn line) (qIn line) (featuresOf (queryIn line)) (placesFor w line)
 
 -- the lines that a query line is answered with; a line that is no 51 frame is refused with 11 and 0 touches
 unfoldable pub answerOf : List ℕ → List ℕ → List ℕ

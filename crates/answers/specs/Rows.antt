@@ -11,6 +11,8 @@ pub record Shown (c : Columns) (n : ℕ) : Type 0 where
   pub in-ids : n ≤ length (c .ids)
   pub in-shared : n ≤ length (c .shared)
   pub in-sizes : n ≤ length (c .sizes)
+  pub in-least : n ≤ length (c .least)
   pub id : (k : ℕ) → k < n → getD (c .ids) k 0 < 65536
   pub share : (k : ℕ) → k < n → getD (c .shared) k 0 < 256
   pub size : (k : ℕ) → k < n → getD (c .sizes) k 0 < 256
+  pub least : (k : ℕ) → k < n → getD (c .least) k 0 < 256

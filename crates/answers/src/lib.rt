@@ -87,9 +87,9 @@ pub fn open(input: &[u8], words: &mut [u32]) -> Opened
 // ---- answering: a query line to the lines of its answer
 
 // Writes a 52 line at the place of row k.
-fn put_row(id: u32, shared: u32, size: u32, out: &mut [u8], k: usize)
-    requires { ⌜ (id < 65536) × (shared < 256) × (size < 256) × (k ≤ rowsLent) × (rowLineLength * k + rowLineLength ≤ length (now out)) ⌝ }
-    ensures { λ _. ⌜ now (out .exit) ≡ take (rowLineLength * k) (now (out .entry)) ++ (rowLine id shared size ++ drop (rowLineLength * k + rowLineLength) (now (out .entry))) ⌝ }
+fn put_row(id: u32, shared: u32, size: u32, least: u32, out: &mut [u8], k: usize)
+    requires { ⌜ (id < 65536) × (shared < 256) × (size < 256) × (least < 256) × (k ≤ rowsLent) × (rowLineLength * k + rowLineLength ≤ length (now out)) ⌝ }
+    ensures { λ _. ⌜ now (out .exit) ≡ take (rowLineLength * k) (now (out .entry)) ++ (rowLine id shared size least ++ drop (rowLineLength * k + rowLineLength) (now (out .entry))) ⌝ }
 {
     let at = frames::ROW_LENGTH * k;
     frames::write_row(
@@ -97,17 +97,18 @@ fn put_row(id: u32, shared: u32, size: u32, out: &mut [u8], k: usize)
         id as u16,
         shared as u8,
         size as u8,
+        least as u8,
     );
 }
 
 // Writes a 52 line for each of the first n rows.
-fn put_rows(ids: &[u32], shared: &[u32], sizes: &[u32], n: usize, out: &mut [u8])
-    requires { ⌜ Shown (asColumns (now ids) (now shared) (now sizes)) n × (length (now out) ≡ rowLineLength * n) ⌝ }
-    ensures { λ _. ⌜ now (out .exit) ≡ rowsText (asColumns (now (ids .entry)) (now (shared .entry)) (now (sizes .entry))) n ⌝ }
+fn put_rows(ids: &[u32], shared: &[u32], sizes: &[u32], least: &[u32], n: usize, out: &mut [u8])
+    requires { ⌜ Shown (asColumns (now ids) (now shared) (now sizes) (now least)) n × (length (now out) ≡ rowLineLength * n) ⌝ }
+    ensures { λ _. ⌜ now (out .exit) ≡ rowsText (asColumns (now (ids .entry)) (now (shared .entry)) (now (sizes .entry)) (now (least .entry))) n ⌝ }
 {
     let mut k: usize = 0;
     while k < n {
-        put_row(ids[k], shared[k], sizes[k], out, k);
+        put_row(ids[k], shared[k], sizes[k], least[k], out, k);
         k += 1;
     }
 }
@@ -121,10 +122,11 @@ fn put_found(
     ids: &[u32],
     shared: &[u32],
     sizes: &[u32],
+    least: &[u32],
     out: &mut [u8],
 ) -> Written
-    requires { ⌜ Shown (asColumns (now ids) (now shared) (now sizes)) rows ⌝ }
-    ensures { λ r. ⌜ (r ≡ fittingOf (foundText rows touches p q (asColumns (now (ids .entry)) (now (shared .entry)) (now (sizes .entry)))) (length (now (out .entry)))) × (now (out .exit) ≡ fittedOf (foundText rows touches p q (asColumns (now (ids .entry)) (now (shared .entry)) (now (sizes .entry)))) (now (out .entry))) ⌝ }
+    requires { ⌜ Shown (asColumns (now ids) (now shared) (now sizes) (now least)) rows ⌝ }
+    ensures { λ r. ⌜ (r ≡ fittingOf (foundText rows touches p q (asColumns (now (ids .entry)) (now (shared .entry)) (now (sizes .entry)) (now (least .entry)))) (length (now (out .entry)))) × (now (out .exit) ≡ fittedOf (foundText rows touches p q (asColumns (now (ids .entry)) (now (shared .entry)) (now (sizes .entry)) (now (least .entry)))) (now (out .entry))) ⌝ }
 {
     let n = rows as usize;
     let end = frames::ROW_LENGTH * n;
@@ -132,7 +134,7 @@ fn put_found(
     if out.len() < total {
         return Written { number: 8, len: 0 };
     }
-    put_rows(ids, shared, sizes, n, &mut out[..end]);
+    put_rows(ids, shared, sizes, least, n, &mut out[..end]);
     frames::write_end(&mut out[end..total], rows as u16, touches, p, q);
     Written {
         number: 0,
@@ -141,9 +143,16 @@ fn put_found(
 }
 
 // Writes the lines of an answer, where they fit.
-fn put_answer(answer: Answer, ids: &[u32], shared: &[u32], sizes: &[u32], out: &mut [u8]) -> Written
-    requires { ⌜ Shown (asColumns (now ids) (now shared) (now sizes)) (rowsIn answer) ⌝ }
-    ensures { λ r. ⌜ (r ≡ fittingOf (answerText answer (asColumns (now (ids .entry)) (now (shared .entry)) (now (sizes .entry)))) (length (now (out .entry)))) × (now (out .exit) ≡ fittedOf (answerText answer (asColumns (now (ids .entry)) (now (shared .entry)) (now (sizes .entry)))) (now (out .entry))) ⌝ }
+fn put_answer(
+    answer: Answer,
+    ids: &[u32],
+    shared: &[u32],
+    sizes: &[u32],
+    least: &[u32],
+    out: &mut [u8],
+) -> Written
+    requires { ⌜ Shown (asColumns (now ids) (now shared) (now sizes) (now least)) (rowsIn answer) ⌝ }
+    ensures { λ r. ⌜ (r ≡ fittingOf (answerText answer (asColumns (now (ids .entry)) (now (shared .entry)) (now (sizes .entry)) (now (least .entry)))) (length (now (out .entry)))) × (now (out .exit) ≡ fittedOf (answerText answer (asColumns (now (ids .entry)) (now (shared .entry)) (now (sizes .entry)) (now (least .entry)))) (now (out .entry))) ⌝ }
 {
     match answer {
         Answer::Found {
@@ -151,7 +160,7 @@ fn put_answer(answer: Answer, ids: &[u32], shared: &[u32], sizes: &[u32], out: &
             touches,
             p,
             q,
-        } => put_found(rows, touches, p, q, ids, shared, sizes, out),
+        } => put_found(rows, touches, p, q, ids, shared, sizes, least, out),
         Answer::Refused { number, touches } => frames::write_refusal(out, number, touches),
     }
 }
@@ -168,14 +177,37 @@ fn ask(
     ids: &mut [u32],
     shared: &mut [u32],
     sizes: &mut [u32],
+    least: &mut [u32],
 ) -> Answer
     requires { ⌜ (known ≡ true → Good (now words)) ⌝ }
-    ensures { λ r. ⌜ Searched (now (query .entry)) measure p q allowance (now (words .entry)) (asColumns (now (ids .entry)) (now (shared .entry)) (now (sizes .entry))) (asColumns (now (ids .exit)) (now (shared .exit)) (now (sizes .exit))) r ⌝ }
+    ensures { λ r. ⌜ Searched (now (query .entry)) measure p q allowance (now (words .entry)) (asColumns (now (ids .entry)) (now (shared .entry)) (now (sizes .entry)) (now (least .entry))) (asColumns (now (ids .exit)) (now (shared .exit)) (now (sizes .exit)) (now (least .exit))) r ⌝ }
 {
     if known {
-        return search::search_good(query, measure, p, q, allowance, words, ids, shared, sizes);
+        return search::search_good(
+            query,
+            measure,
+            p,
+            q,
+            allowance,
+            words,
+            ids,
+            shared,
+            sizes,
+            least,
+        );
     }
-    search::search(query, measure, p, q, allowance, words, ids, shared, sizes)
+    search::search(
+        query,
+        measure,
+        p,
+        q,
+        allowance,
+        words,
+        ids,
+        shared,
+        sizes,
+        least,
+    )
 }
 
 // Answers a query line with tables that are lent.
@@ -187,9 +219,10 @@ fn answer_with(
     ids: &mut [u32],
     shared: &mut [u32],
     sizes: &mut [u32],
+    least: &mut [u32],
     out: &mut [u8],
 ) -> Written
-    requires { ⌜ (known ≡ true → Good (now words)) × (length (now query) ≡ longestName) × (length (now ids) ≡ rowsLent) × (length (now shared) ≡ rowsLent) × (length (now sizes) ≡ rowsLent) ⌝ }
+    requires { ⌜ (known ≡ true → Good (now words)) × (length (now query) ≡ longestName) × (length (now ids) ≡ rowsLent) × (length (now shared) ≡ rowsLent) × (length (now sizes) ≡ rowsLent) × (length (now least) ≡ rowsLent) ⌝ }
     ensures { λ r. ⌜ (r ≡ fittingOf (answerOf (now (words .entry)) (now (line .entry))) (length (now (out .entry)))) × (now (out .exit) ≡ fittedOf (answerOf (now (words .entry)) (now (line .entry))) (now (out .entry))) ⌝ }
 {
     let read = frames::read_query(line, query);
@@ -209,8 +242,9 @@ fn answer_with(
         ids,
         shared,
         sizes,
+        least,
     );
-    put_answer(answer, ids, shared, sizes, out)
+    put_answer(answer, ids, shared, sizes, least, out)
 }
 
 // Writes the lines that a query line is answered with, where they fit, from words that are known to be good.
@@ -222,6 +256,7 @@ fn answer_good(line: &[u8], words: &[u32], out: &mut [u8]) -> Written
     let mut ids = [0u32; ROWS_LENT];
     let mut shared = [0u32; ROWS_LENT];
     let mut sizes = [0u32; ROWS_LENT];
+    let mut least = [0u32; ROWS_LENT];
     answer_with(
         true,
         line,
@@ -230,6 +265,7 @@ fn answer_good(line: &[u8], words: &[u32], out: &mut [u8]) -> Written
         &mut ids,
         &mut shared,
         &mut sizes,
+        &mut least,
         out,
     )
 }
@@ -242,6 +278,7 @@ pub fn answer(line: &[u8], words: &[u32], out: &mut [u8]) -> Written
     let mut ids = [0u32; ROWS_LENT];
     let mut shared = [0u32; ROWS_LENT];
     let mut sizes = [0u32; ROWS_LENT];
+    let mut least = [0u32; ROWS_LENT];
     answer_with(
         false,
         line,
@@ -250,6 +287,7 @@ pub fn answer(line: &[u8], words: &[u32], out: &mut [u8]) -> Written
         &mut ids,
         &mut shared,
         &mut sizes,
+        &mut least,
         out,
     )
 }

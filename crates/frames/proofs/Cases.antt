@@ -28,9 +28,9 @@ queryLine =
     ∷ 10
     ∷ []
 
--- 52000B0407
+-- 52000B040704
 abbrev rowLine : List ℕ
-rowLine = 53 ∷ 50 ∷ 48 ∷ 48 ∷ 48 ∷ 66 ∷ 48 ∷ 52 ∷ 48 ∷ 55 ∷ 10 ∷ []
+rowLine = 53 ∷ 50 ∷ 48 ∷ 48 ∷ 48 ∷ 66 ∷ 48 ∷ 52 ∷ 48 ∷ 55 ∷ 48 ∷ 52 ∷ 10 ∷ []
 
 -- 4500030000000F0008000D
 abbrev endLine : List ℕ
@@ -43,7 +43,7 @@ refusalLine = 53 ∷ 56 ∷ 48 ∷ 55 ∷ 48 ∷ 48 ∷ 48 ∷ 48 ∷ 48 ∷ 48 
 -- the five lines, written
 pub listing-written : (lineOf nameFrame (10 ∷ []) lane ≡ nameLine)
     × (lineOf queryFrame (1 ∷ 8 ∷ 13 ∷ 15 ∷ []) lane ≡ queryLine)
-    × (lineOf rowFrame (11 ∷ 4 ∷ 7 ∷ []) [] ≡ rowLine)
+    × (lineOf rowFrame (11 ∷ 4 ∷ 7 ∷ 4 ∷ []) [] ≡ rowLine)
     × (lineOf endFrame (3 ∷ 15 ∷ 8 ∷ 13 ∷ []) [] ≡ endLine)
     × (lineOf refusalFrame (7 ∷ 14 ∷ []) [] ≡ refusalLine)
 unfolding lineOf hexLine hexOf digitOf fieldBytes bytesFor nameBytes
@@ -54,17 +54,18 @@ pub listing-read : (readOf nameFrame nameLine 4 ≡ nameOut (record { number = 0
     × (nameIn nameFrame nameLine ≡ lane)
     × (readOf nameFrame nameLine 3 ≡ nameOut (record { number = 8; id = 0; len = 0 }))
     × (readOf queryFrame queryLine 64 ≡ queryOut (record { number = 0; measure = 1; p = 8; q = 13; allowance = 15; len = 4 }))
-    × (readOf rowFrame rowLine 0 ≡ rowOut (Row 11 4 7))
+    × (readOf rowFrame rowLine 0 ≡ rowOut (Row 11 4 7 4))
     × (readOf endFrame endLine 0 ≡ endOut (End 3 15 8 13))
     × (readOf refusalFrame refusalLine 0 ≡ refusalOut (Refusal 7 14))
 unfolding readOf isFrame wellFormed isDigit valueOf placeIn laidOut bytesOf headSize sumOf tailSize nameIn fieldsIn fieldsOf numberOf
 listing-read = (refl, refl, refl, refl, refl, refl, refl)
 
--- damage to the row: a lower-case digit, no line feed, two of them; no bytes at all; and the row read as an end
-pub damaged : (isFrame rowFrame (53 ∷ 50 ∷ 48 ∷ 48 ∷ 48 ∷ 98 ∷ 48 ∷ 52 ∷ 48 ∷ 55 ∷ 10 ∷ []) ≡ false)
-    × (isFrame rowFrame (53 ∷ 50 ∷ 48 ∷ 48 ∷ 48 ∷ 66 ∷ 48 ∷ 52 ∷ 48 ∷ 55 ∷ []) ≡ false)
-    × (isFrame rowFrame (53 ∷ 50 ∷ 48 ∷ 48 ∷ 48 ∷ 66 ∷ 48 ∷ 52 ∷ 48 ∷ 55 ∷ 10 ∷ 10 ∷ []) ≡ false)
+-- damage to the row: a lower-case digit, no line feed, two of them, no least count; no bytes at all; and the row read as an end
+pub damaged : (isFrame rowFrame (53 ∷ 50 ∷ 48 ∷ 48 ∷ 48 ∷ 98 ∷ 48 ∷ 52 ∷ 48 ∷ 55 ∷ 48 ∷ 52 ∷ 10 ∷ []) ≡ false)
+    × (isFrame rowFrame (53 ∷ 50 ∷ 48 ∷ 48 ∷ 48 ∷ 66 ∷ 48 ∷ 52 ∷ 48 ∷ 55 ∷ 48 ∷ 52 ∷ []) ≡ false)
+    × (isFrame rowFrame (53 ∷ 50 ∷ 48 ∷ 48 ∷ 48 ∷ 66 ∷ 48 ∷ 52 ∷ 48 ∷ 55 ∷ 48 ∷ 52 ∷ 10 ∷ 10 ∷ []) ≡ false)
+    × (isFrame rowFrame (53 ∷ 50 ∷ 48 ∷ 48 ∷ 48 ∷ 66 ∷ 48 ∷ 52 ∷ 48 ∷ 55 ∷ 10 ∷ []) ≡ false)
     × (isFrame rowFrame [] ≡ false)
     × (isFrame endFrame rowLine ≡ false)
 unfolding isFrame wellFormed isDigit valueOf placeIn laidOut bytesOf headSize sumOf tailSize
-damaged = (refl, refl, refl, refl, refl)
+damaged = (refl, refl, refl, refl, refl, refl)

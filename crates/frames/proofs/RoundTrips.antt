@@ -39,11 +39,11 @@ read-write-query measure p q allowance query room i j k a b h r =
     let f : List ℕ = measure ∷ p ∷ q ∷ allowance ∷ [] in
     read-write queryFrame f query (fitting-named queryFrame f query refl (omega arith) (i, (j, (k, (a, tt)))) b h) room r
 
-pub read-write-row : (id shared size : ℕ) → id < 65536 → shared < 256 → size < 256
-    → readOf rowFrame (lineOf rowFrame (id ∷ shared ∷ size ∷ []) []) 0 ≡ rowOut (Row id shared size)
-read-write-row id shared size i j k =
-    let f : List ℕ = id ∷ shared ∷ size ∷ [] in
-    read-write rowFrame f [] (fitting-plain rowFrame f (omega arith) (i, (j, (k, tt)))) 0 (omega arith)
+pub read-write-row : (id shared size least : ℕ) → id < 65536 → shared < 256 → size < 256 → least < 256
+    → readOf rowFrame (lineOf rowFrame (id ∷ shared ∷ size ∷ least ∷ []) []) 0 ≡ rowOut (Row id shared size least)
+read-write-row id shared size least i j k m =
+    let f : List ℕ = id ∷ shared ∷ size ∷ least ∷ [] in
+    read-write rowFrame f [] (fitting-plain rowFrame f (omega arith) (i, (j, (k, (m, tt))))) 0 (omega arith)
 
 pub read-write-end : (rows touches p q : ℕ) → rows < 65536 → touches < 4294967296 → p < 65536 → q < 65536
     → readOf endFrame (lineOf endFrame (rows ∷ touches ∷ p ∷ q ∷ []) []) 0 ≡ endOut (End rows touches p q)
@@ -67,10 +67,10 @@ pub write-read-query : (l : List ℕ) (room : ℕ) (r : QueryRead) → queryOut 
     → lineOf queryFrame (r .measure ∷ r .p ∷ r .q ∷ r .allowance ∷ []) (nameIn queryFrame l) ≡ l
 write-read-query l room r e z = write-reading queryFrame l room (queryOut r) e z
 
-pub write-read-row : (l : List ℕ) (id shared size : ℕ) → rowOut (Row id shared size) ≡ readOf rowFrame l 0
-    → lineOf rowFrame (id ∷ shared ∷ size ∷ []) [] ≡ l
+pub write-read-row : (l : List ℕ) (id shared size least : ℕ) → rowOut (Row id shared size least) ≡ readOf rowFrame l 0
+    → lineOf rowFrame (id ∷ shared ∷ size ∷ least ∷ []) [] ≡ l
 unfolding nameIn
-write-read-row l id shared size e = write-reading rowFrame l 0 (rowOut (Row id shared size)) e refl
+write-read-row l id shared size least e = write-reading rowFrame l 0 (rowOut (Row id shared size least)) e refl
 
 pub write-read-end : (l : List ℕ) (rows touches p q : ℕ) → endOut (End rows touches p q) ≡ readOf endFrame l 0
     → lineOf endFrame (rows ∷ touches ∷ p ∷ q ∷ []) [] ≡ l
@@ -118,11 +118,11 @@ pub query-out-unique : (r s : QueryRead) → queryOut r ≡ queryOut s → r ≡
 query-out-unique r s e = ap queryBack e
 
 rowBack : Reading → RowRead
-rowBack x = cond (eqb (x .number) 0) (Row (getD (x .fields) 0 0) (getD (x .fields) 1 0) (getD (x .fields) 2 0)) NoRow
+rowBack x = cond (eqb (x .number) 0) (Row (getD (x .fields) 0 0) (getD (x .fields) 1 0) (getD (x .fields) 2 0) (getD (x .fields) 3 0)) NoRow
 
 row-back : (r : RowRead) → rowBack (rowOut r) ≡ r
 unfolding rowBack
-row-back (Row id shared size) = refl
+row-back (Row id shared size least) = refl
 row-back NoRow = refl
 
 pub row-out-unique : (r s : RowRead) → rowOut r ≡ rowOut s → r ≡ s

@@ -26,9 +26,9 @@ nameFrame = record { kind = 0x4E; widths = 2 ∷ []; named = true }
 abbrev pub queryFrame : Layout
 queryFrame = record { kind = 0x51; widths = 1 ∷ 2 ∷ 2 ∷ 4 ∷ []; named = true }
 
--- an answer row: id, shared, size
+-- an answer row: id, shared, size, least count
 abbrev pub rowFrame : Layout
-rowFrame = record { kind = 0x52; widths = 2 ∷ 1 ∷ 1 ∷ []; named = false }
+rowFrame = record { kind = 0x52; widths = 2 ∷ 1 ∷ 1 ∷ 1 ∷ []; named = false }
 
 -- the end of an answer: rows, touches, p, q
 abbrev pub endFrame : Layout
@@ -44,7 +44,7 @@ layouts = nameFrame ∷ queryFrame ∷ rowFrame ∷ endFrame ∷ refusalFrame �
 
 -- how long a 52 line is, a 45 line and a 58 line, their line feed included
 abbrev pub rowLineLength : ℕ
-rowLineLength = 11
+rowLineLength = 13
 
 abbrev pub endLineLength : ℕ
 endLineLength = 23
@@ -64,7 +64,7 @@ queryOut r = record { number = r .number; fields = r .measure ∷ r .p ∷ r .q 
 
 -- a 52 answer: 0 and the fields of a row, or 11 and 0 in every field
 abbrev pub rowOut : RowRead → Reading
-rowOut (Row id shared size) = record { number = 0; fields = id ∷ shared ∷ size ∷ []; len = 0 }
+rowOut (Row id shared size least) = record { number = 0; fields = id ∷ shared ∷ size ∷ least ∷ []; len = 0 }
 rowOut NoRow = refusedWith rowFrame 11
 
 -- a 45 answer: 0 and the fields of an end, or 11 and 0 in every field

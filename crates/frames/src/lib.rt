@@ -22,7 +22,7 @@ const QUERY: Layout = Layout {
 
 const ROW: Layout = Layout {
     kind: 0x52,
-    widths: [2, 1, 1, 0],
+    widths: [2, 1, 1, 1],
     named: false,
 };
 
@@ -39,7 +39,7 @@ const REFUSAL: Layout = Layout {
 };
 
 // How long a 52 line is, a 45 line and a 58 line, their line feed included.
-pub const ROW_LENGTH: usize = 11;
+pub const ROW_LENGTH: usize = 13;
 
 pub const END_LENGTH: usize = 23;
 
@@ -64,7 +64,12 @@ pub struct QueryRead {
 
 // What reading a 52 line answers.
 pub enum RowRead {
-    Row { id: u16, shared: u8, size: u8 },
+    Row {
+        id: u16,
+        shared: u8,
+        size: u8,
+        least: u8,
+    },
     Malformed,
 }
 
@@ -158,15 +163,26 @@ pub fn read_row(line: &[u8]) -> RowRead
     let id = r.fields[0] as u16;
     let shared = r.fields[1] as u8;
     let size = r.fields[2] as u8;
-    RowRead::Row { id, shared, size }
+    let least = r.fields[3] as u8;
+    RowRead::Row {
+        id,
+        shared,
+        size,
+        least,
+    }
 }
 
 // Writes a 52 line.
-pub fn write_row(out: &mut [u8], id: u16, shared: u8, size: u8) -> Written
-    ensures { λ r. ⌜ r ≡ writtenOf rowFrame (id ∷ shared ∷ size ∷ []) [] (length (now (out .entry))) ⌝ }
-    ensures { λ _. ⌜ now (out .exit) ≡ outOf rowFrame (id ∷ shared ∷ size ∷ []) [] (now (out .entry)) ⌝ }
+pub fn write_row(out: &mut [u8], id: u16, shared: u8, size: u8, least: u8) -> Written
+    ensures { λ r. ⌜ r ≡ writtenOf rowFrame (id ∷ shared ∷ size ∷ least ∷ []) [] (length (now (out .entry))) ⌝ }
+    ensures { λ _. ⌜ now (out .exit) ≡ outOf rowFrame (id ∷ shared ∷ size ∷ least ∷ []) [] (now (out .entry)) ⌝ }
 {
-    fields::write(out, ROW, [id as u32, shared as u32, size as u32, 0], &[])
+    fields::write(
+        out,
+        ROW,
+        [id as u32, shared as u32, size as u32, least as u32],
+        &[],
+    )
 }
 
 // Reads a 45 line.

@@ -59,10 +59,10 @@ fn put_query(room: usize, r: QueryRead, query: [u8; fields::LONGEST_NAME]) {
     }
 }
 
-fn put_row(room: usize, id: u16, shared: u8, size: u8) {
+fn put_row(room: usize, id: u16, shared: u8, size: u8, least: u8) {
     let mut out = [46u8; 640];
     if room <= 640 {
-        let w = frames::write_row(&mut out[0..room], id, shared, size);
+        let w = frames::write_row(&mut out[0..room], id, shared, size, least);
         written(w, out, room);
     }
 }
@@ -147,11 +147,17 @@ fn malformed() {
 fn row(line: &[u8]) {
     text(b"52");
     match frames::read_row(line) {
-        RowRead::Row { id, shared, size } => {
-            four(0, id as u64, shared as u64, size as u64);
+        RowRead::Row {
+            id,
+            shared,
+            size,
+            least,
+        } => {
+            number(0);
+            four(id as u64, shared as u64, size as u64, least as u64);
             text(b"\n");
-            put_row(frames::ROW_LENGTH, id, shared, size);
-            put_row(frames::ROW_LENGTH - 1, id, shared, size);
+            put_row(frames::ROW_LENGTH, id, shared, size, least);
+            put_row(frames::ROW_LENGTH - 1, id, shared, size, least);
         }
         RowRead::Malformed => malformed(),
     }

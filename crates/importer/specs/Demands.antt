@@ -77,7 +77,7 @@ pub record Tells (answered : Type 0) (no n : ℕ) (idAt : ℕ → ℕ) (Similar 
 
 -- the search of a line: its typed name, the settings, the whole allowance, and room for 256 rows
 abbrev pub lent : Rows
-lent = asRows (replicate rowRoom 0) (replicate rowRoom 0) (replicate rowRoom 0)
+lent = asRows (replicate rowRoom 0) (replicate rowRoom 0) (replicate rowRoom 0) (replicate rowRoom 0)
 
 abbrev pub questionOf : List ℕ → Settings → List ℕ → Question Rows
 questionOf words s line =

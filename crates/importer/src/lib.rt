@@ -124,6 +124,7 @@ fn outcome_of(good: bool, query: &[u8], s: Settings, words: &[u32]) -> Outcome
     let mut ids = [0u32; index::MOST_NAMES];
     let mut shared = [0u32; index::MOST_NAMES];
     let mut sizes = [0u32; index::MOST_NAMES];
+    let mut least = [0u32; index::MOST_NAMES];
     let answer = search::search_checked(
         good,
         query,
@@ -135,6 +136,7 @@ fn outcome_of(good: bool, query: &[u8], s: Settings, words: &[u32]) -> Outcome
         &mut ids,
         &mut shared,
         &mut sizes,
+        &mut least,
     );
     outcome_from(answer, &ids)
 }

@@ -21,7 +21,7 @@ use Rattle.words.specs.Words.{nameId, nameSize}
 use Rattle.index.specs.Good.{mostNames, goodOf}
 use Rattle.index.proofs.Laws.{good-names-most}
 use Rattle.sizes.specs.Method.{sharedWith, touchesOf, answersOf}
-use Rattle.search.specs.Answers.{rowsIn, refusalOf, searchGoodOf, searchOf, givenBy, Columns, roomOf, columnsOf, columnsOver, placesGiven, Searched}
+use Rattle.search.specs.Answers.{rowsIn, refusalOf, searchGoodOf, searchOf, givenBy, Columns, roomOf, leastFor, columnsOf, columnsOver, placesGiven, Searched}
 use Rattle.search.proofs.Outcomes.{admitted}
 use Rattle.search.proofs.Listed.{answers-most}
 use Rattle.search.specs.declared.Answer.{Answer}
@@ -108,7 +108,7 @@ module _ (s : List ℕ) (m p q allowance : ℕ) (w : List ℕ) where
 
 -- columns with what stands after them
 abbrev pub columnsThen : Columns → Columns → Columns
-columnsThen c x = record { ids = c .ids ++ x .ids; shared = c .shared ++ x .shared; sizes = c .sizes ++ x .sizes }
+columnsThen c x = record { ids = c .ids ++ x .ids; shared = c .shared ++ x .shared; sizes = c .sizes ++ x .sizes; least = c .least ++ x .least }
 
 -- an entry of a column that starts with the places' values
 column-entry : (f : ℕ → ℕ) (places l rest : List ℕ) (k : ℕ) → k < length places → getD ((map f places ++ l) ++ rest) k 0 ≡ f (getD places k 0)
@@ -120,19 +120,21 @@ column-entry f places l rest k h =
     ∙ getD-map-lt f places k 0 0 h
 
 -- columns that start with the places' rows have those rows
-pub columns-rows : (w query places : List ℕ) (c x : Columns) → tabulate (rowAcross (columnsThen (columnsOver (columnsOf w query places) c) x)) (length places) ≡ recordsOf w query places
-columns-rows w query places c x =
-    sym (tabulate-of (rowAcross filled) (length places) noRow (recordsOf w query places) (length-map places (rowOf w query))
-    (λ k h. getD-map-lt (rowOf w query) places k 0 noRow h ∙ sym (same k h)))
+pub columns-rows : (w : List ℕ) (m p q : ℕ) (query places : List ℕ) (c x : Columns)
+    → tabulate (rowAcross (columnsThen (columnsOver (columnsOf w m p q query places) c) x)) (length places) ≡ recordsOf w m p q query places
+columns-rows w m p q query places c x =
+    sym (tabulate-of (rowAcross filled) (length places) noRow (recordsOf w m p q query places) (length-map places (rowOf w m p q query))
+    (λ k h. getD-map-lt (rowOf w m p q query) places k 0 noRow h ∙ sym (same k h)))
   where
     filled : Columns
-    filled = columnsThen (columnsOver (columnsOf w query places) c) x
+    filled = columnsThen (columnsOver (columnsOf w m p q query places) c) x
 
-    same : (k : ℕ) → k < length places → rowAcross filled k ≡ rowOf w query (getD places k 0)
+    same : (k : ℕ) → k < length places → rowAcross filled k ≡ rowOf w m p q query (getD places k 0)
     same k h = λ t. record {
       id = column-entry (nameId w) places (drop (length (map (nameId w) places)) (c .ids)) (x .ids) k h t;
       shared = column-entry (sharedWith w query) places (drop (length (map (sharedWith w query) places)) (c .shared)) (x .shared) k h t;
       size = column-entry (nameSize w) places (drop (length (map (nameSize w) places)) (c .sizes)) (x .sizes) k h t;
+      least = column-entry (leastFor w m p q query) places (drop (length (map (leastFor w m p q query) places)) (c .least)) (x .least) k h t;
     }
 
 -- ---- what `fill_columns` leaves
@@ -144,27 +146,27 @@ length-cut n room most l e f = let h = min-le-right room most in length-take-le 
 pub cut-counted : (n room most : ℕ) (l : List ℕ) → n ≡ min room most → most ≤ length l → n ≡ length (take n l)
 cut-counted n room most l e f = sym (length-cut n room most l e f)
 
-room-cut : (c : Columns) (n : ℕ) → length (c .ids) ≡ n → length (c .shared) ≡ n → length (c .sizes) ≡ n → roomOf c ≡ n
-room-cut c n e f g =
+room-cut : (c : Columns) (n : ℕ) → length (c .ids) ≡ n → length (c .shared) ≡ n → length (c .sizes) ≡ n → length (c .least) ≡ n → roomOf c ≡ n
+room-cut c n e f g i =
     let h : n ≤ n = omega arith in
-    (λ t. min (e t) (min (f t) (g t))) ∙ ap (λ (k : ℕ). min n k) (min-eq-left h) ∙ min-eq-left h
+    (λ t. min (e t) (min (f t) (min (g t) (i t)))) ∙ ap (λ (k : ℕ). min n (min n k)) (min-eq-left h) ∙ ap (λ (k : ℕ). min n k) (min-eq-left h) ∙ min-eq-left h
 
 -- a search of columns that are cut at the room, with whatever stands after the cuts
 pub filled : (s : List ℕ) (m p q allowance : ℕ) (w : List ℕ) (room n : ℕ) (r : Answer) (before after rest : Columns) → n ≡ min room mostNames
-    → Searched s m p q allowance w before after r → length (before .ids) ≡ n → length (before .shared) ≡ n → length (before .sizes) ≡ n
+    → Searched s m p q allowance w before after r → length (before .ids) ≡ n → length (before .shared) ≡ n → length (before .sizes) ≡ n → length (before .least) ≡ n
     → Filled s m p q allowance w room r (rowAcross (columnsThen after rest))
-filled s m p q allowance w room n r before after rest cut e li lh lz = record {
+filled s m p q allowance w room n r before after rest cut e li lh lz ll = record {
   answer = right;
   rows =
       (λ t. tabulate (rowAcross (columnsThen (e .columns t) rest)) (counted t))
-      ∙ columns-rows w (featuresOf s) (placesGiven s m p q allowance w (roomOf before)) before rest
-      ∙ ap (λ (x : Answer). recordsOf w (featuresOf s) (givenBy x (answersOf w m p q (featuresOf s)))) same;
+      ∙ columns-rows w m p q (featuresOf s) (placesGiven s m p q allowance w (roomOf before)) before rest
+      ∙ ap (λ (x : Answer). recordsOf w m p q (featuresOf s) (givenBy x (answersOf w m p q (featuresOf s)))) same;
   few = comes .2;
   within = comes .1;
 }
   where
     same : searchOf s m p q allowance w (roomOf before) ≡ searchOf s m p q allowance w room
-    same = ap (searchOf s m p q allowance w) (room-cut before n li lh lz ∙ cut) ∙ room-enough s m p q allowance w room
+    same = ap (searchOf s m p q allowance w) (room-cut before n li lh lz ll ∙ cut) ∙ room-enough s m p q allowance w room
 
     right : r ≡ searchOf s m p q allowance w room
     right = e .answer ∙ same

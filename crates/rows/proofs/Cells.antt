@@ -54,12 +54,13 @@ over-sets p v s at e h =
 
 -- row k put in, cell by cell
 pub cells-over-step : (f : ℕ → Row) (k : ℕ) (l s : List ℕ) → l ≡ cellsOver f k s → rowCells * k + rowCells ≤ length s
-    → set (set (set l (rowCells * k) (f k .id)) (rowCells * k + 1) (f k .shared)) (rowCells * k + 2) (f k .size) ≡ cellsOver f (k + 1) s
+    → set (set (set (set l (rowCells * k) (f k .id)) (rowCells * k + 1) (f k .shared)) (rowCells * k + 2) (f k .size)) (rowCells * k + 3) (f k .least) ≡ cellsOver f (k + 1) s
 unfolding tabulate
 cells-over-step f k l s e h =
     let p : rowCells * k + 1 ≡ suc (rowCells * k) = omega arith in
     let q : rowCells * k + 2 ≡ suc (suc (rowCells * k)) = omega arith in
-    (λ t. set (set (set (e t) (rowCells * k) (f k .id)) (p t) (f k .shared)) (q t) (f k .size))
+    let r : rowCells * k + 3 ≡ suc (suc (suc (rowCells * k))) = omega arith in
+    (λ t. set (set (set (set (e t) (rowCells * k) (f k .id)) (p t) (f k .shared)) (q t) (f k .size)) (r t) (f k .least))
     ∙ over-sets (cellsOf (tabulate f k)) (cellsIn (f k)) s (rowCells * k) (length-rows f k) h
     ∙ ap (λ (t : List ℕ). over t s) (sym (cells-snoc (tabulate f k) (f k)))
     ∙ ap (λ (n : ℕ). cellsOver f n s) (sym (add-one k))
@@ -81,7 +82,13 @@ row-in-cells (r ∷ l) rest (suc k) h =
     let e : next ≡ rowCells + at = omega arith in
     let e₁ : next + 1 ≡ rowCells + (at + 1) = omega arith in
     let e₂ : next + 2 ≡ rowCells + (at + 2) = omega arith in
-    (λ i. record { id = cell-behind r t next at e i; shared = cell-behind r t (next + 1) (at + 1) e₁ i; size = cell-behind r t (next + 2) (at + 2) e₂ i })
+    let e₃ : next + 3 ≡ rowCells + (at + 3) = omega arith in
+    (λ i. record {
+      id = cell-behind r t next at e i;
+      shared = cell-behind r t (next + 1) (at + 1) e₁ i;
+      size = cell-behind r t (next + 2) (at + 2) e₂ i;
+      least = cell-behind r t (next + 3) (at + 3) e₃ i;
+    })
     ∙ row-in-cells l rest k (let g : k < length l = omega arith in g)
 
 -- the rows of the cells are the rows that were put in

@@ -9,7 +9,7 @@ use lib.Seq.{getD-drop, getD-append-add}
 use Rattle.names.specs.Features.{featuresOf}
 use Rattle.words.specs.Words.{nameId, nameSize}
 use Rattle.sizes.specs.Method.{sharedWith, answersOf}
-use Rattle.search.specs.Answers.{numberIn, searchOf, Columns, columnsOf, over, columnsOver}
+use Rattle.search.specs.Answers.{numberIn, searchOf, Columns, leastFor, columnsOf, over, columnsOver}
 use Rattle.search.proofs.Outcomes.{refused-gives}
 use Rattle.rows.specs.declared.Row.{Row}
 use Rattle.rows.specs.Rows.{rowOf, recordsOf, overRows, rowsAfter, columnsIn}
@@ -38,18 +38,19 @@ row-kept given l k d h =
 pub rows-refused : (query : List ℕ) (m p q allowance : ℕ) (w : List ℕ) (l : List Row) → (numberIn (searchOf query m p q allowance w (length l)) ≡ 0 → ⊥)
     → rowsAfter query m p q allowance w l ≡ l
 rows-refused query m p q allowance w l n =
-    ap (λ (places : List ℕ). overRows (recordsOf w (featuresOf query) places) l) (refused-gives (searchOf query m p q allowance w (length l)) (answersOf w m p q (featuresOf query)) n)
+    ap (λ (places : List ℕ). overRows (recordsOf w m p q (featuresOf query) places) l) (refused-gives (searchOf query m p q allowance w (length l)) (answersOf w m p q (featuresOf query)) n)
 
 -- the records' fields are the columns
-fields : (f : Row → ℕ) (g : ℕ → ℕ) (w query : List ℕ) → ((i : ℕ) → f (rowOf w query i) ≡ g i) → (places : List ℕ) → map f (recordsOf w query places) ≡ map g places
-fields f g w query e [] = refl
-fields f g w query e (i ∷ places) = λ t. e i t ∷ fields f g w query e places t
+fields : (f : Row → ℕ) (g : ℕ → ℕ) (row : ℕ → Row) → ((i : ℕ) → f (row i) ≡ g i) → (places : List ℕ) → map f (map row places) ≡ map g places
+fields f g row e [] = refl
+fields f g row e (i ∷ places) = λ t. e i t ∷ fields f g row e places t
 
-pub rows-columns : (w query places : List ℕ) → columnsIn (recordsOf w query places) ≡ columnsOf w query places
-rows-columns w query places = λ t. record {
-  ids = fields (λ r. r .id) (nameId w) w query (λ i. refl) places t;
-  shared = fields (λ r. r .shared) (sharedWith w query) w query (λ i. refl) places t;
-  sizes = fields (λ r. r .size) (nameSize w) w query (λ i. refl) places t;
+pub rows-columns : (w : List ℕ) (m p q : ℕ) (query places : List ℕ) → columnsIn (recordsOf w m p q query places) ≡ columnsOf w m p q query places
+rows-columns w m p q query places = λ t. record {
+  ids = fields (λ r. r .id) (nameId w) (rowOf w m p q query) (λ i. refl) places t;
+  shared = fields (λ r. r .shared) (sharedWith w query) (rowOf w m p q query) (λ i. refl) places t;
+  sizes = fields (λ r. r .size) (nameSize w) (rowOf w m p q query) (λ i. refl) places t;
+  least = fields (λ r. r .least) (leastFor w m p q query) (rowOf w m p q query) (λ i. refl) places t;
 }
 
 -- ---- the rows over a lent list
@@ -65,12 +66,13 @@ over-fields f given l =
     map-append f given (drop (length given) l)
     ∙ ap (λ (t : List ℕ). map f given ++ t) (map-drop f (length given) l ∙ ap (λ (n : ℕ). drop n (map f l)) (sym (length-map given f)))
 
-pub over-columns : (w query places : List ℕ) (l : List Row)
-    → columnsIn (overRows (recordsOf w query places) l) ≡ columnsOver (columnsOf w query places) (columnsIn l)
-over-columns w query places l =
+pub over-columns : (w : List ℕ) (m p q : ℕ) (query places : List ℕ) (l : List Row)
+    → columnsIn (overRows (recordsOf w m p q query places) l) ≡ columnsOver (columnsOf w m p q query places) (columnsIn l)
+over-columns w m p q query places l =
     (λ t. record {
-      ids = over-fields (λ r. r .id) (recordsOf w query places) l t;
-      shared = over-fields (λ r. r .shared) (recordsOf w query places) l t;
-      sizes = over-fields (λ r. r .size) (recordsOf w query places) l t;
+      ids = over-fields (λ r. r .id) (recordsOf w m p q query places) l t;
+      shared = over-fields (λ r. r .shared) (recordsOf w m p q query places) l t;
+      sizes = over-fields (λ r. r .size) (recordsOf w m p q query places) l t;
+      least = over-fields (λ r. r .least) (recordsOf w m p q query places) l t;
     })
-    ∙ ap (λ (c : Columns). columnsOver c (columnsIn l)) (rows-columns w query places)
+    ∙ ap (λ (c : Columns). columnsOver c (columnsIn l)) (rows-columns w m p q query places)

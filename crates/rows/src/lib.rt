@@ -11,16 +11,18 @@ ghost use Rattle.search.specs.Answers.{searchOf, rowsIn, asColumns, over};
 ghost use Rattle.rows.specs.Rows.{rowsAfter, rowCells, rowIn, rowAcross, cellsOf, Filled};
 use search::Answer;
 
-// An answer row: a name's id, how many of the query's features it has, and its size. Laid out as C has it, for the crate `surface`.
+// An answer row: a name's id, how many of the query's features it has, its size, and the least count of that size. Laid out as C has it, for the crate
+// `surface`.
 #[repr(C)]
 pub struct Row {
     pub id: u32,
     pub shared: u32,
     pub size: u32,
+    pub least: u32,
 }
 
 // How many cells a row takes in a plain table.
-pub const ROW_CELLS: usize = 3;
+pub const ROW_CELLS: usize = 4;
 
 // How many rows an answer gives; none where it is refused.
 fn rows_in(answer: Answer) -> usize
@@ -52,9 +54,10 @@ fn fill_columns(
     ids: &mut [u32],
     shared: &mut [u32],
     sizes: &mut [u32],
+    least: &mut [u32],
 ) -> Answer
-    requires { ⌜ (length (now ids) ≡ mostNames) × (length (now shared) ≡ mostNames) × (length (now sizes) ≡ mostNames) ⌝ }
-    ensures { λ r. ⌜ Filled (now (query .entry)) measure p q allowance (now (words .entry)) room r (rowAcross (asColumns (now (ids .exit)) (now (shared .exit)) (now (sizes .exit)))) ⌝ }
+    requires { ⌜ (length (now ids) ≡ mostNames) × (length (now shared) ≡ mostNames) × (length (now sizes) ≡ mostNames) × (length (now least) ≡ mostNames) ⌝ }
+    ensures { λ r. ⌜ Filled (now (query .entry)) measure p q allowance (now (words .entry)) room r (rowAcross (asColumns (now (ids .exit)) (now (shared .exit)) (now (sizes .exit)) (now (least .exit)))) ⌝ }
 {
     let n = search::smaller(room, index::MOST_NAMES);
     search::search(
@@ -67,13 +70,14 @@ fn fill_columns(
         &mut ids[..n],
         &mut shared[..n],
         &mut sizes[..n],
+        &mut least[..n],
     )
 }
 
 // Puts the first n rows of the columns into cells: row i from ROW_CELLS * i on.
-fn put_cells(ids: &[u32], shared: &[u32], sizes: &[u32], n: usize, cells: &mut [u32])
-    requires { ⌜ (n ≤ length (now ids)) × (n ≤ length (now shared)) × (n ≤ length (now sizes)) × (rowCells * n ≤ length (now cells)) ⌝ }
-    ensures { λ _. ⌜ now (cells .exit) ≡ over (cellsOf (tabulate (rowAcross (asColumns (now (ids .entry)) (now (shared .entry)) (now (sizes .entry)))) n)) (now (cells .entry)) ⌝ }
+fn put_cells(ids: &[u32], shared: &[u32], sizes: &[u32], least: &[u32], n: usize, cells: &mut [u32])
+    requires { ⌜ (n ≤ length (now ids)) × (n ≤ length (now shared)) × (n ≤ length (now sizes)) × (n ≤ length (now least)) × (rowCells * n ≤ length (now cells)) ⌝ }
+    ensures { λ _. ⌜ now (cells .exit) ≡ over (cellsOf (tabulate (rowAcross (asColumns (now (ids .entry)) (now (shared .entry)) (now (sizes .entry)) (now (least .entry)))) n)) (now (cells .entry)) ⌝ }
 {
     let mut i = 0;
     while i < n {
@@ -81,6 +85,7 @@ fn put_cells(ids: &[u32], shared: &[u32], sizes: &[u32], n: usize, cells: &mut [
         cells[at] = ids[i];
         cells[at + 1] = shared[i];
         cells[at + 2] = sizes[i];
+        cells[at + 3] = least[i];
         i += 1;
     }
 }
@@ -102,6 +107,7 @@ fn find_rows(
     let mut ids = [0u32; index::MOST_NAMES];
     let mut shared = [0u32; index::MOST_NAMES];
     let mut sizes = [0u32; index::MOST_NAMES];
+    let mut least = [0u32; index::MOST_NAMES];
     let answer = fill_columns(
         query,
         measure,
@@ -113,8 +119,9 @@ fn find_rows(
         &mut ids,
         &mut shared,
         &mut sizes,
+        &mut least,
     );
-    put_cells(&ids, &shared, &sizes, rows_in(answer), cells);
+    put_cells(&ids, &shared, &sizes, &least, rows_in(answer), cells);
     answer
 }
 
@@ -128,6 +135,7 @@ fn row_at(cells: &[u32], k: usize) -> Row
         id: cells[at],
         shared: cells[at + 1],
         size: cells[at + 2],
+        least: cells[at + 3],
     }
 }
 

@@ -55,7 +55,7 @@ unfolding givenBy
 searched-refused s m p q allowance w c number touches e =
     record {
       answer = sym e;
-      columns = ap (λ (r : Answer). columnsOver (columnsOf w (featuresOf s) (givenBy r (answersOf w m p q (featuresOf s)))) c) (sym e);
+      columns = ap (λ (r : Answer). columnsOver (columnsOf w m p q (featuresOf s) (givenBy r (answersOf w m p q (featuresOf s)))) c) (sym e);
     }
 
 -- ---- the order of refusals

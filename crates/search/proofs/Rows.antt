@@ -8,7 +8,7 @@ use Prim.Native.Nat.{ℕ, suc, _+_, _≤_, _<_}
 use native.Mathlib.Nat.{eq-or-lt-of-le}
 use native.Mathlib.Numerals.{add-one}
 use native.Mathlib.Omega.{arith}
-use lib.ListN.{length, getD, drop, set, length-append, length-drop, length-map}
+use lib.ListN.{length, getD, drop, set, length-append, length-drop, length-map, length-set}
 use lib.Seq.{drop-cons, set-at, append-snoc}
 use lib.Dec.{leb}
 use borrow.Author.Tests.{le-leb, lt-leb}
@@ -80,3 +80,28 @@ length-overs f l s h =
     let a = length-append (map f l) (drop (length (map f l)) s) in
     let d = length-drop (length (map f l)) s in
     omega arith
+
+-- ---- a column, name by name
+
+-- after the first i names: as long as it was, and in front what the answers among them have there
+pub record Written (a : List ℕ) (f : ℕ → ℕ) (before after : List ℕ) (i : ℕ) : Type 0 where
+  pub long : length after ≡ length before
+  pub front : after ≡ over (map f (placesIn a i)) before
+
+pub written-nil : (a : List ℕ) (f : ℕ → ℕ) (s : List ℕ) → Written a f s s 0
+written-nil a f s = record { long = refl; front = ap (λ (l : List ℕ). over (map f l) s) (sym (places-nil a)) }
+
+pub written-met : (a : List ℕ) (f : ℕ → ℕ) (s t : List ℕ) (i k v : ℕ) → 0 < getD a i 0 → k ≡ length (placesIn a i) → k < length s → v ≡ f i
+    → Written a f s t i → Written a f s (set t k v) (i + 1)
+written-met a f s t i k v h n m e r =
+    record {
+      long = length-set t k v ∙ r .long;
+      front =
+          ap₂ (λ (l : List ℕ) (x : ℕ). set l k x) (r .front) e
+          ∙ over-more f (placesIn a i) i k s (sym n) m
+          ∙ ap (λ (l : List ℕ). over (map f l) s) (sym (places-met a i h));
+    }
+
+pub written-passed : (a : List ℕ) (f : ℕ → ℕ) (s t : List ℕ) (i : ℕ) → getD a i 0 ≤ 0 → Written a f s t i → Written a f s t (i + 1)
+written-passed a f s t i h r =
+    record { long = r .long; front = r .front ∙ ap (λ (l : List ℕ). over (map f l) s) (sym (places-passed a i h)) }

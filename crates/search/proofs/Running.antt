@@ -10,9 +10,11 @@ use lib.ListN.{length, getD}
 use lib.Dec.{ltb}
 use Rattle.laws.specs.Below.{sumBelow}
 use Rattle.laws.specs.Sort.{sortOf}
+use Rattle.laws.proofs.Sort.{length-sort}
 use Rattle.names.specs.Names.{judgeOf}
 use Rattle.names.specs.Features.{characters, featuresOf}
 use Rattle.likeness.specs.Measures.{goodMeasure, goodThreshold}
+use Rattle.likeness.specs.Least.{leastCount}
 use Rattle.likeness.specs.Terms.{lowestTerms}
 use Rattle.words.specs.Words.{nameCount, nameId, nameSize}
 use Rattle.index.specs.Good.{Good, mostNames}
@@ -20,24 +22,25 @@ use Rattle.candidates.proofs.Spending.{spent-most}
 use Rattle.sizes.specs.Method.{sizesEnd, sharedWith, touchesOf, answersOf}
 use Rattle.sizes.specs.Tables.{Asked, leastsOf, Reachable, touchesBy, answersTable, Covered}
 use Rattle.search.specs.Places.{placesIn}
-use Rattle.search.specs.Answers.{searchGoodOf, searchOf, givenBy, Columns, roomOf, columnsOf, columnsOver, Searched}
+use Rattle.search.specs.Answers.{searchGoodOf, searchOf, givenBy, Columns, roomOf, leastFor, columnsOf, columnsOver, Searched}
 use Rattle.search.specs.declared.Answer.{Answer}
 use Rattle.search.specs.declared.Answer.the-variants.{Found, Refused}
 use Rattle.search.proofs.Answered.{good-past, good-full, good-found, question-none, refusal-none, search-runs, searched-refused}
 use Rattle.sizes.proofs.Answering.{length-answers}
-use Rattle.sizes.proofs.Leasts.{leasts-reachable, touches-leasts}
-use Rattle.search.proofs.AgainstMethod.{touches-sorted, answers-sorted, shared-sorted, features-asked, places-answers, shared-column}
+use Rattle.sizes.proofs.Leasts.{leasts-reachable, touches-leasts, least-listed}
+use Rattle.search.proofs.AgainstMethod.{touches-sorted, answers-sorted, shared-sorted, features-asked, places-answers, column-answers, shared-column}
 
 -- the places of the answers, as the table holds them, and their rows
 abbrev pub placesOf : List ℕ → List ℕ → List ℕ
 placesOf w answers = placesIn answers (nameCount w)
 
-abbrev pub tableColumns : List ℕ → List ℕ → List ℕ → Columns
-tableColumns w answers places =
+abbrev pub tableColumns : List ℕ → List ℕ → List ℕ → List ℕ → Columns
+tableColumns w leasts answers places =
     record {
       ids = map (nameId w) places;
       shared = map (λ (i : ℕ). getD answers i 0) places;
       sizes = map (nameSize w) places;
+      least = map (λ (i : ℕ). getD leasts (nameSize w i) 0) places;
     }
 
 -- what all sizes are handed: of a good index, a good query, measure and threshold the sorted features and the least counts
@@ -104,21 +107,30 @@ module _ {s : List ℕ} {m p q allowance : ℕ} {w f leasts answers : List ℕ} 
         ∙ ap (Refused 8) (sym cost))
 
     -- the rows of the table are the answers'
-    rows : tableColumns w answers (placesOf w answers) ≡ columnsOf w (featuresOf s) (answersOf w m p q (featuresOf s))
+    rows : tableColumns w leasts answers (placesOf w answers) ≡ columnsOf w m p q (featuresOf s) (answersOf w m p q (featuresOf s))
     rows =
-        ap₂ (tableColumns w) table listed
+        ap₂ (tableColumns w leasts) table listed
         ∙ (λ t.
         record {
           ids = ap (map (nameId w)) same t;
           shared = (shared-column w (r .good) m p q (r .known) (r .exact) f (ran-asked r) ∙ ap₂ (λ (g : ℕ → ℕ) (l : List ℕ). map g l) (fun-ext shared) same) t;
           sizes = ap (map (nameSize w)) same t;
+          least = (least-column ∙ ap₂ (λ (g : ℕ → ℕ) (l : List ℕ). map g l) (fun-ext least) same) t;
         })
       where
+        least-column : map (λ (i : ℕ). getD leasts (nameSize w i) 0) (answersOf w m p q f) ≡ map (leastFor w m p q f) (answersOf w m p q f)
+        least-column =
+            column-answers w (r .good) m p q (r .known) (r .exact) f (ran-asked r) (λ (i : ℕ). getD leasts (nameSize w i) 0) (leastFor w m p q f)
+            (λ i h e. ap (λ (l : List ℕ). getD l (nameSize w i) 0) (r .least) ∙ least-listed w (r .good) m p q f i h e)
+
+        least : (i : ℕ) → leastFor w m p q f i ≡ leastFor w m p q (featuresOf s) i
+        least i = ap (λ (x : ℕ). leastCount m p q x (nameSize w i)) (ap length (r .sorted) ∙ length-sort (featuresOf s))
+
         shared : (i : ℕ) → sharedWith w f i ≡ sharedWith w (featuresOf s) i
         shared i = ap (λ (l : List ℕ). sharedWith w l i) (r .sorted) ∙ shared-sorted w (featuresOf s) i
 
     pub ran-found : (c d : Columns) (n : ℕ) → n ≡ length (placesOf w answers) → n ≤ roomOf c
-        → d ≡ columnsOver (tableColumns w answers (placesOf w answers)) c
+        → d ≡ columnsOver (tableColumns w leasts answers (placesOf w answers)) c
         → Searched s m p q allowance w c d (Found n touches (lowestTerms p q .p) (lowestTerms p q .q))
     unfolding givenBy
     ran-found c d n k h g =
@@ -129,5 +141,5 @@ module _ {s : List ℕ} {m p q allowance : ℕ} {w f leasts answers : List ℕ} 
           columns =
               g
               ∙ ap (λ (x : Columns). columnsOver x c) rows
-              ∙ ap (λ (x : Answer). columnsOver (columnsOf w (featuresOf s) (givenBy x (answersOf w m p q (featuresOf s)))) c) (sym found);
+              ∙ ap (λ (x : Answer). columnsOver (columnsOf w m p q (featuresOf s) (givenBy x (answersOf w m p q (featuresOf s)))) c) (sym found);
         }

@@ -10,6 +10,7 @@ use Rattle.laws.specs.Cases.{Case, case, firstCase}
 use Rattle.names.specs.Names.{nameCases}
 use Rattle.names.specs.Features.{featuresOf}
 use Rattle.likeness.specs.Measures.{goodMeasure, goodThreshold}
+use Rattle.likeness.specs.Least.{leastCount}
 use Rattle.likeness.specs.Terms.{lowestTerms}
 use Rattle.words.specs.Words.{nameId, nameSize}
 use Rattle.index.specs.Good.{goodOf}
@@ -88,24 +89,41 @@ pub record Columns : Type 0 where
   pub ids : List ℕ
   pub shared : List ℕ
   pub sizes : List ℕ
+  pub least : List ℕ
 
-abbrev pub asColumns : List ℕ → List ℕ → List ℕ → Columns
-asColumns ids shared sizes = record { ids = ids; shared = shared; sizes = sizes }
+abbrev pub asColumns : List ℕ → List ℕ → List ℕ → List ℕ → Columns
+asColumns ids shared sizes least = record { ids = ids; shared = shared; sizes = sizes; least = least }
 
 -- there is room for as many rows as the shortest has
 abbrev pub roomOf : Columns → ℕ
-roomOf c = min (length (c .ids)) (min (length (c .shared)) (length (c .sizes)))
+roomOf c = min (length (c .ids)) (min (length (c .shared)) (min (length (c .sizes)) (length (c .least))))
 
--- the rows of the names at some places: of the words, the query's features and the places among the names
-abbrev pub columnsOf : List ℕ → List ℕ → List ℕ → Columns
-columnsOf w query places = record { ids = map (nameId w) places; shared = map (sharedWith w query) places; sizes = map (nameSize w) places }
+-- how narrowly a name got in: the least count of its size, for the query's features
+abbrev pub leastFor : List ℕ → ℕ → ℕ → ℕ → List ℕ → ℕ → ℕ
+leastFor w m p q query i = leastCount m p q (length query) (nameSize w i)
+
+-- the rows of the names at some places: of the words, the measure and the threshold, the query's features and the places among the names
+abbrev pub columnsOf : List ℕ → ℕ → ℕ → ℕ → List ℕ → List ℕ → Columns
+columnsOf w m p q query places =
+    record {
+      ids = map (nameId w) places;
+      shared = map (sharedWith w query) places;
+      sizes = map (nameSize w) places;
+      least = map (leastFor w m p q query) places;
+    }
 
 -- a lent column afterwards: what is given, and after it what stood there
 abbrev pub over : List ℕ → List ℕ → List ℕ
 over l s = l ++ drop (length l) s
 
 abbrev pub columnsOver : Columns → Columns → Columns
-columnsOver given c = record { ids = over (given .ids) (c .ids); shared = over (given .shared) (c .shared); sizes = over (given .sizes) (c .sizes) }
+columnsOver given c =
+    record {
+      ids = over (given .ids) (c .ids);
+      shared = over (given .shared) (c .shared);
+      sizes = over (given .sizes) (c .sizes);
+      least = over (given .least) (c .least);
+    }
 
 -- ---- a search of any words, whole
 
@@ -116,7 +134,7 @@ module _ (query : List ℕ) (m p q allowance : ℕ) (w : List ℕ) where
 
   -- what it leaves in columns that are lent to it
   abbrev pub columnsAfter : Columns → Columns
-  columnsAfter c = columnsOver (columnsOf w (featuresOf query) (placesGiven (roomOf c))) c
+  columnsAfter c = columnsOver (columnsOf w m p q (featuresOf query) (placesGiven (roomOf c))) c
 
   -- what it answers, and what it leaves
   pub record Searched (before after : Columns) (r : Answer) : Type 0 where

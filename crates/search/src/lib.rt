@@ -12,6 +12,7 @@ ghost use Rattle.names.specs.Features.{featuresOf};
 ghost use Rattle.names.specs.Set.{filled};
 ghost use Rattle.index.specs.Good.{goodOf, Good, idsIn};
 ghost use Rattle.words.specs.Words.{nameCount, nameId, nameSize};
+ghost use Rattle.sizes.specs.Method.{sizesEnd};
 ghost use Rattle.search.specs.Answers.{questionOf, over, asColumns, Searched};
 ghost use Rattle.search.specs.Places.{placesIn};
 use names::FeatureSet;
@@ -63,19 +64,22 @@ fn count_answers(answers: &[u32], n: usize) -> usize
     rows
 }
 
-// Writes a row for each answer, in the names' order, as far as the last of `rows` answers.
+// Writes a row for each answer, in the names' order, as far as the last of `rows` answers. The least counts are by size.
 fn write_rows(
     words: &[u32],
     answers: &[u32],
+    leasts: &[u32],
     rows: usize,
     ids: &mut [u32],
     shared: &mut [u32],
     sizes: &mut [u32],
+    least: &mut [u32],
 )
-    requires { ⌜ Good (now words) × (nameCount (now words) ≤ length (now answers)) × (rows ≡ length (placesIn (now answers) (nameCount (now words)))) × (rows ≤ length (now ids)) × (rows ≤ length (now shared)) × (rows ≤ length (now sizes)) ⌝ }
+    requires { ⌜ Good (now words) × (nameCount (now words) ≤ length (now answers)) × (length (now leasts) ≡ sizesEnd) × (rows ≡ length (placesIn (now answers) (nameCount (now words)))) × (rows ≤ length (now ids)) × (rows ≤ length (now shared)) × (rows ≤ length (now sizes)) × (rows ≤ length (now least)) ⌝ }
     ensures { λ _. ⌜ now (ids .exit) ≡ over (map (nameId (now (words .entry))) (placesIn (now (answers .entry)) (nameCount (now (words .entry))))) (now (ids .entry)) ⌝ }
     ensures { λ _. ⌜ now (shared .exit) ≡ over (map (λ (i : ℕ). getD (now (answers .entry)) i 0) (placesIn (now (answers .entry)) (nameCount (now (words .entry))))) (now (shared .entry)) ⌝ }
     ensures { λ _. ⌜ now (sizes .exit) ≡ over (map (nameSize (now (words .entry))) (placesIn (now (answers .entry)) (nameCount (now (words .entry))))) (now (sizes .entry)) ⌝ }
+    ensures { λ _. ⌜ now (least .exit) ≡ over (map (λ (i : ℕ). getD (now (leasts .entry)) (nameSize (now (words .entry)) i) 0) (placesIn (now (answers .entry)) (nameCount (now (words .entry))))) (now (least .entry)) ⌝ }
 {
     let mut k = 0;
     let mut i = 0;
@@ -84,9 +88,11 @@ fn write_rows(
         let at = i;
         i += 1;
         if 0 < count {
+            let size = words::name_size(words, at);
             ids[k] = words::name_id(words, at);
             shared[k] = count;
-            sizes[k] = words::name_size(words, at);
+            sizes[k] = size;
+            least[k] = leasts[size as usize];
             k += 1;
         }
     }
@@ -124,9 +130,10 @@ fn run(
     ids: &mut [u32],
     shared: &mut [u32],
     sizes: &mut [u32],
+    least: &mut [u32],
 ) -> Answer
     requires { ⌜ Good (now words) × (judgeOf (now query) ≡ 0) × (goodMeasure measure ≡ true) × (goodThreshold p q ≡ true) ⌝ }
-    ensures { λ r. ⌜ Searched (now (query .entry)) measure p q allowance (now (words .entry)) (asColumns (now (ids .entry)) (now (shared .entry)) (now (sizes .entry))) (asColumns (now (ids .exit)) (now (shared .exit)) (now (sizes .exit))) r ⌝ }
+    ensures { λ r. ⌜ Searched (now (query .entry)) measure p q allowance (now (words .entry)) (asColumns (now (ids .entry)) (now (shared .entry)) (now (sizes .entry)) (now (least .entry))) (asColumns (now (ids .exit)) (now (shared .exit)) (now (sizes .exit)) (now (least .exit))) r ⌝ }
 {
     let n = words::name_count(words);
     let mut table = [0u32; index::MOST_NAMES];
@@ -152,11 +159,14 @@ fn run(
     }
     let touches = spent.touches as u32;
     let rows = count_answers(&answers, n);
-    let room = smaller(ids.len(), smaller(shared.len(), sizes.len()));
+    let room = smaller(
+        ids.len(),
+        smaller(shared.len(), smaller(sizes.len(), least.len())),
+    );
     if room < rows {
         return Answer::Refused { number: 8, touches };
     }
-    write_rows(words, &answers, rows, ids, shared, sizes);
+    write_rows(words, &answers, &leasts, rows, ids, shared, sizes, least);
     let t = likeness::lowest(p, q);
     Answer::Found {
         rows: rows as u32,
@@ -195,9 +205,10 @@ pub fn search_checked(
     ids: &mut [u32],
     shared: &mut [u32],
     sizes: &mut [u32],
+    least: &mut [u32],
 ) -> Answer
     requires { ⌜ good ≡ goodOf (now words) ⌝ }
-    ensures { λ r. ⌜ Searched (now (query .entry)) measure p q allowance (now (words .entry)) (asColumns (now (ids .entry)) (now (shared .entry)) (now (sizes .entry))) (asColumns (now (ids .exit)) (now (shared .exit)) (now (sizes .exit))) r ⌝ }
+    ensures { λ r. ⌜ Searched (now (query .entry)) measure p q allowance (now (words .entry)) (asColumns (now (ids .entry)) (now (shared .entry)) (now (sizes .entry)) (now (least .entry))) (asColumns (now (ids .exit)) (now (shared .exit)) (now (sizes .exit)) (now (least .exit))) r ⌝ }
 {
     let number = question(query, measure, p, q);
     if number != 0 {
@@ -209,7 +220,18 @@ pub fn search_checked(
             touches: 0,
         };
     }
-    run(query, measure, p, q, allowance, words, ids, shared, sizes)
+    run(
+        query,
+        measure,
+        p,
+        q,
+        allowance,
+        words,
+        ids,
+        shared,
+        sizes,
+        least,
+    )
 }
 
 // The search of words that index::good has passed.
@@ -223,9 +245,10 @@ pub fn search_good(
     ids: &mut [u32],
     shared: &mut [u32],
     sizes: &mut [u32],
+    least: &mut [u32],
 ) -> Answer
     requires { ⌜ Good (now words) ⌝ }
-    ensures { λ r. ⌜ Searched (now (query .entry)) measure p q allowance (now (words .entry)) (asColumns (now (ids .entry)) (now (shared .entry)) (now (sizes .entry))) (asColumns (now (ids .exit)) (now (shared .exit)) (now (sizes .exit))) r ⌝ }
+    ensures { λ r. ⌜ Searched (now (query .entry)) measure p q allowance (now (words .entry)) (asColumns (now (ids .entry)) (now (shared .entry)) (now (sizes .entry)) (now (least .entry))) (asColumns (now (ids .exit)) (now (shared .exit)) (now (sizes .exit)) (now (least .exit))) r ⌝ }
 {
     search_checked(
         true,
@@ -238,6 +261,7 @@ pub fn search_good(
         ids,
         shared,
         sizes,
+        least,
     )
 }
 
@@ -252,8 +276,9 @@ pub fn search(
     ids: &mut [u32],
     shared: &mut [u32],
     sizes: &mut [u32],
+    least: &mut [u32],
 ) -> Answer
-    ensures { λ r. ⌜ Searched (now (query .entry)) measure p q allowance (now (words .entry)) (asColumns (now (ids .entry)) (now (shared .entry)) (now (sizes .entry))) (asColumns (now (ids .exit)) (now (shared .exit)) (now (sizes .exit))) r ⌝ }
+    ensures { λ r. ⌜ Searched (now (query .entry)) measure p q allowance (now (words .entry)) (asColumns (now (ids .entry)) (now (shared .entry)) (now (sizes .entry)) (now (least .entry))) (asColumns (now (ids .exit)) (now (shared .exit)) (now (sizes .exit)) (now (least .exit))) r ⌝ }
 {
     let good = index::good(words);
     search_checked(
@@ -267,5 +292,6 @@ pub fn search(
         ids,
         shared,
         sizes,
+        least,
     )
 }

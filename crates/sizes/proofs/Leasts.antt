@@ -12,7 +12,7 @@ use lib.Dec.{eqb, leb}
 use borrow.Author.Tests.{le-leb, leb-true, leb-false, eq-eqb}
 use Rattle.laws.specs.Below.{sumBelow}
 use Rattle.laws.proofs.Lists.{length-tabulate, getD-tabulate}
-use Rattle.laws.proofs.Below.{sum-below-ext, count-below-more}
+use Rattle.laws.proofs.Below.{and-left, sum-below-ext, count-below-more}
 use Rattle.laws.proofs.Order.{eq-or-ne}
 use Rattle.likeness.specs.Sizes.{isSearched}
 use Rattle.likeness.specs.Least.{leastCount}
@@ -106,3 +106,11 @@ module _ (w : List ℕ) (good : Good w) (m p q : ℕ) (f : List ℕ) where
           leb 1 t && remains ls t (laterCount ls t) (nameId w i) ≡ s && remains ls l (laterCount ls l) (nameId w i)
       by-test true e = rw (searched-least (nameSize w i) e)
       by-test false e = refl
+
+  -- the least count of a listed name's size stands in the table
+  pub least-listed : (i : ℕ) → i < nameCount w → listed w m p q f i ≡ true → getD leasts (nameSize w i) 0 ≡ leastCount m p q x (nameSize w i)
+  unfolding listed leastAt
+  least-listed i h e =
+      let g = good-name-within w good i h in
+      let k : nameSize w i < sizesEnd = (let z = g .2 in omega arith) in
+      entry (nameSize w i) k ∙ (rw (somebody i h, and-left (isSearched m p q x (nameSize w i)) _ e))

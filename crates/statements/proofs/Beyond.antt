@@ -11,6 +11,7 @@ use Rattle.laws.specs.Lists.{member}
 use Rattle.laws.specs.Cases.{case, firstCase}
 use Rattle.laws.proofs.Members.{member-nil}
 use Rattle.names.specs.Features.{featuresOf}
+use Rattle.likeness.specs.Least.{leastCount}
 use Rattle.likeness.specs.Terms.{lowestTerms}
 use Rattle.words.specs.Words.{total}
 use Rattle.index.specs.Good.{goodOf}
@@ -54,15 +55,16 @@ module _ {A : Type 0} (s : Lending A) (lends : Lends s) (a : Question A) (other 
 
   after-good : goodOf (a .words) ≡ true → after s (withWords other a) ≡ after s a
   after-good g =
-      ap₂ (λ (r : Answer) (l : List ℕ). s .written other (featuresOf (a .query)) (givenBy r l) (a .lent)) (answer-good g)
+      ap₂ (λ (r : Answer) (l : List ℕ). s .written other (a .measure) (a .p) (a .q) (featuresOf (a .query)) (givenBy r l) (a .lent)) (answer-good g)
       (answers-same (a .words) other same long g (featuresOf (a .query)) (a .measure) (a .p) (a .q))
-      ∙ lends .alike other (a .words) (featuresOf (a .query)) (givenBy (answer s a) (found a)) (a .lent)
+      ∙ lends .alike other (a .words) (a .measure) (a .p) (a .q) (a .p) (a .q) (featuresOf (a .query)) (givenBy (answer s a) (found a)) (a .lent)
       (λ i m.
       let h = answer-place (a .words) (a .measure) (a .p) (a .q) (featuresOf (a .query)) i (given-member (answer s a) (found a) i m) .0 in
       λ t. record {
         id = id-same (a .words) other same long i h t;
         shared = shared-same (a .words) other same long g (featuresOf (a .query)) i h t;
         size = size-same (a .words) other same long i h t;
+        least = leastCount (a .measure) (a .p) (a .q) (length (featuresOf (a .query))) (size-same (a .words) other same long i h t);
       })
 
   same-words : (answer s (withWords other a) ≡ answer s a) × (after s (withWords other a) ≡ after s a)

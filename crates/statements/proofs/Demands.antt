@@ -8,7 +8,7 @@ use Prim.Native.Nat.{ℕ, _+_, _-_, _*_, _≤_, _<_}
 use native.Mathlib.Omega.{arith}
 use lib.ListN.{length, getD, take, length-map}
 use lib.Dec.{eqb, leb, ltb}
-use borrow.Author.Tests.{eqb-true, ltb-true, lt-ltb, le-ltb}
+use borrow.Author.Tests.{leb-true, eqb-true, ltb-true, lt-ltb, le-ltb}
 use Rattle.hex.specs.Lines.{Bytes}
 use Rattle.laws.specs.Lists.{member, Ascending}
 use Rattle.laws.specs.Cases.{firstCase, allNumbers, allNumbered}
@@ -23,13 +23,14 @@ use Rattle.likeness.specs.Measures.{goodMeasure, goodThreshold, isSimilar}
 use Rattle.likeness.specs.Sizes.{isSearched}
 use Rattle.likeness.specs.Terms.{lowestTerms}
 use Rattle.likeness.proofs.Measures.{similar-fraction}
-use Rattle.likeness.proofs.Least.{least-pos, least-within}
+use Rattle.likeness.proofs.Least.{least-pos, least-within, similar-least}
 use Rattle.words.specs.Words.{nameCount, nameId, nameSize}
 use Rattle.index.specs.Good.{goodOf}
+use Rattle.index.proofs.Laws.{good-ids-apart, good-name-within}
 use Rattle.lists.specs.Lists.{listIn, featuresIn}
 use Rattle.lists.proofs.Laws.{features-member}
 use Rattle.sizes.specs.Method.{namesOf, sharedWith, touchesOfSize}
-use Rattle.search.specs.Answers.{numberIn, rowsIn, touchesIn, thresholdP, thresholdQ, questionOf, refusalOf, searchGoodOf, searchOf, givenBy, Columns, columnsOf, over, columnsOver}
+use Rattle.search.specs.Answers.{numberIn, rowsIn, touchesIn, thresholdP, thresholdQ, questionOf, refusalOf, searchGoodOf, searchOf, givenBy, Columns, leastFor, columnsOf, over, columnsOver}
 use Rattle.search.specs.declared.Answer.{Answer}
 use Rattle.search.specs.declared.Answer.the-variants.{Found, Refused}
 use Rattle.sizes.proofs.Laws.{length-lists, held-features, listed-similar, Query}
@@ -38,7 +39,8 @@ use Rattle.search.proofs.Answered.{good-past, good-full, good-found, search-ref
 use Rattle.search.proofs.Outcomes.{refused-empty, refused-gives, given-found, Admitted, admitted, Answered as AnsweredOf, answered}
 use Rattle.search.proofs.Listed.{over-taken, over-at, answer-place, answer-ids, answer-listed}
 use Rattle.sizes.proofs.Work.{touches-candidates, candidates-names, touches-all, touches-most, signatures-least}
-use Rattle.statements.specs.Demands.{Lending, columns, records, Question, answer, number, steps, found, after, beforeWork, afterWork, refusals, touchesWith, Demand1, sharedBy, Reaches, rowIds, Demand2, withAllowance, leastAt, listsAt, postingsAt, candidatesAt, Demand3, Demands, Searches}
+use Rattle.rows.specs.Rows.{rowAcross}
+use Rattle.statements.specs.Demands.{Lending, columns, records, Question, answer, number, steps, found, after, beforeWork, afterWork, refusals, touchesWith, Demand1, sharedBy, Reaches, leastAt, TrueRow, rowAt, rowIds, Demand2, withAllowance, listsAt, postingsAt, candidatesAt, Demand3, Demands, Searches}
 use Rattle.statements.proofs.Lent.{Lends, columns-lend, records-lend}
 
 -- ---- demand 1
@@ -138,8 +140,8 @@ module _ {A : Type 0} (s : Lending A) (lends : Lends s) (a : Question A) where
         touched = touched-with;
         nothing = refused-empty (answer s a);
         kept = λ n.
-            ap (λ (l : List ℕ). s .written (a .words) (featuresOf (a .query)) l (a .lent)) (refused-gives (answer s a) (found a) n)
-            ∙ lends .none (a .words) (featuresOf (a .query)) (a .lent);
+            ap (λ (l : List ℕ). s .written (a .words) (a .measure) (a .p) (a .q) (featuresOf (a .query)) l (a .lent)) (refused-gives (answer s a) (found a) n)
+            ∙ lends .none (a .words) (a .measure) (a .p) (a .q) (featuresOf (a .query)) (a .lent);
       }
 
   -- ---- demand 2
@@ -167,11 +169,15 @@ module _ {A : Type 0} (s : Lending A) (lends : Lends s) (a : Question A) where
       record {
         exactly = exactly;
         true-rows = true-rows;
+        least = least;
+        reached = reached;
+        same-size = λ i j l h e. least i l ∙ ap (leastAt a) e ∙ sym (least j h);
+        agreed = agreed;
         ascending = subst Ascending (sym ids) (answer-ids (a .words) (a .measure) (a .p) (a .q) (featuresOf (a .query)) (k .admitted .good));
         rows = ap length ids ∙ length-map (found a) (nameId (a .words)) ∙ sym rows;
         fits = (let e = rows in let h = k .fits in omega arith);
         beyond = ap₂ (λ (m : ℕ) (l : A). s .behind m l) rows left
-            ∙ lends .behind (a .words) (featuresOf (a .query)) (found a) (a .lent)
+            ∙ lends .behind (a .words) (a .measure) (a .p) (a .q) (featuresOf (a .query)) (found a) (a .lent)
             ∙ ap (λ (m : ℕ). s .behind m (a .lent)) (sym rows);
         lowest = (ap thresholdP (k .form), ap thresholdQ (k .form));
       }
@@ -183,13 +189,13 @@ module _ {A : Type 0} (s : Lending A) (lends : Lends s) (a : Question A) where
       rows = ap rowsIn (k .form)
 
       -- what is lent, afterwards
-      left : after s a ≡ s .written (a .words) (featuresOf (a .query)) (found a) (a .lent)
+      left : after s a ≡ s .written (a .words) (a .measure) (a .p) (a .q) (featuresOf (a .query)) (found a) (a .lent)
       left =
-          ap (λ (l : List ℕ). s .written (a .words) (featuresOf (a .query)) l (a .lent))
+          ap (λ (l : List ℕ). s .written (a .words) (a .measure) (a .p) (a .q) (featuresOf (a .query)) l (a .lent))
           (given-found (answer s a) (length (found a)) (steps a) (lowestTerms (a .p) (a .q) .p) (lowestTerms (a .p) (a .q) .q) (found a) (k .form))
 
-      rows-left : s .rows (after s a) ≡ columnsOver (columnsOf (a .words) (featuresOf (a .query)) (found a)) (s .rows (a .lent))
-      rows-left = ap (s .rows) left ∙ lends .rows (a .words) (featuresOf (a .query)) (found a) (a .lent)
+      rows-left : s .rows (after s a) ≡ columnsOver (columnsOf (a .words) (a .measure) (a .p) (a .q) (featuresOf (a .query)) (found a)) (s .rows (a .lent))
+      rows-left = ap (s .rows) left ∙ lends .rows (a .words) (a .measure) (a .p) (a .q) (featuresOf (a .query)) (found a) (a .lent)
 
       ids : rowIds s a ≡ map (nameId (a .words)) (found a)
       ids =
@@ -209,24 +215,65 @@ module _ {A : Type 0} (s : Lending A) (lends : Lends s) (a : Question A) where
           let f = similar-fraction (a .measure) (a .p) (a .q) (length (featuresOf (a .query))) (nameSize (a .words) i) (sharedBy a i) (k .admitted .exact) in
           (λ m. f .0 (sym same ∙ m), λ r. same ∙ f .1 r)
 
-      true-rows : (j : ℕ) → j < rowsIn (answer s a)
-          → (i : ℕ)
-          × (i < nameCount (a .words))
-          × (getD (s .rows (after s a) .ids) j 0 ≡ nameId (a .words) i)
-          × (getD (s .rows (after s a) .shared) j 0 ≡ sharedBy a i)
-          × (getD (s .rows (after s a) .sizes) j 0 ≡ nameSize (a .words) i)
+      -- the name of a row is there, and similar
+      name-there : (j : ℕ) → j < rowsIn (answer s a)
+          → (getD (found a) j 0 < nameCount (a .words)) × (leastAt a (nameSize (a .words) (getD (found a) j 0)) ≤ sharedBy a (getD (found a) j 0))
+      name-there j l =
+          let e = rows in
+          let h : j < length (found a) = omega arith in
+          let i = getD (found a) j 0 in
+          let x = length (featuresOf (a .query)) in
+          let y = nameSize (a .words) i in
+          let c = k .admitted in
+          let f = query-features (a .query) (c .judged) b in
+          let p = answer-place (a .words) (a .measure) (a .p) (a .q) (featuresOf (a .query)) i (member-at (found a) j h) in
+          let some = f .some in
+          let y-pos = good-name-within (a .words) (c .good) i (p .0) .1 in
+          let s : isSimilar (a .measure) (a .p) (a .q) x y (sharedBy a i) ≡ true =
+          ap (isSimilar (a .measure) (a .p) (a .q) x y) (sym (shared-by c b i (p .0)))
+          ∙ sym (listed-similar (a .words) (c .good) (a .measure) (a .p) (a .q) (c .known) (c .exact) (featuresOf (a .query)) f i (p .0))
+          ∙ p .1
+          in
+          (p .0, leb-true _ _ (sym (similar-least (a .measure) (a .p) (a .q) x y (c .known) (c .exact) (sharedBy a i) (omega arith) (omega arith)) ∙ s))
+
+      true-rows : (j : ℕ) → j < rowsIn (answer s a) → TrueRow a (s .rows (after s a)) j
       true-rows j l =
           let e = rows in
           let h : j < length (found a) = omega arith in
           let i = getD (found a) j 0 in
-          let there = answer-place (a .words) (a .measure) (a .p) (a .q) (featuresOf (a .query)) i (member-at (found a) j h) .0 in
+          let there = name-there j l .0 in
           let at : (c d : List ℕ) (f : ℕ → ℕ) → c ≡ over (map f (found a)) d → getD c j 0 ≡ f i = λ c d f e. ap (λ (x : List ℕ). getD x j 0) e ∙ over-at f (found a) d j h in (
             i,
             there,
             at _ (s .rows (a .lent) .ids) (nameId (a .words)) (ap (λ (c : Columns). c .ids) rows-left),
             at _ (s .rows (a .lent) .shared) (sharedWith (a .words) (featuresOf (a .query))) (ap (λ (c : Columns). c .shared) rows-left) ∙ shared-by (k .admitted) b i there,
             at _ (s .rows (a .lent) .sizes) (nameSize (a .words)) (ap (λ (c : Columns). c .sizes) rows-left),
+            at _ (s .rows (a .lent) .least) (leastFor (a .words) (a .measure) (a .p) (a .q) (featuresOf (a .query))) (ap (λ (c : Columns). c .least) rows-left),
           )
+
+      least : (j : ℕ) → j < rowsIn (answer s a) → rowAt s a j .least ≡ leastAt a (rowAt s a j .size)
+      least j l = let r = true-rows j l in r .5 ∙ ap (leastAt a) (sym (r .4))
+
+      reached : (j : ℕ) → j < rowsIn (answer s a) → (1 ≤ rowAt s a j .least) × (rowAt s a j .least ≤ rowAt s a j .shared)
+      reached j l =
+          let r = true-rows j l in
+          let c = k .admitted in
+          let d = least-pos (a .measure) (a .p) (a .q) (length (featuresOf (a .query))) (nameSize (a .words) (r .0)) (c .known) (c .exact) in
+          let e = r .5 in
+          let f = r .3 in
+          let h = name-there j l .1 in
+          (omega arith, omega arith)
+
+      agreed : (c : Columns) (m : ℕ) → TrueRow a c m → (j : ℕ) → j < rowsIn (answer s a) → getD (c .ids) m 0 ≡ rowAt s a j .id → rowAcross c m ≡ rowAt s a j
+      agreed c m t j l e =
+          let r = true-rows j l in
+          let i : t .0 ≡ r .0 = good-ids-apart (a .words) (k .admitted .good) (t .0) (r .0) (t .1) (r .1) (sym (t .2) ∙ e ∙ r .2) in
+          λ z. record {
+            id = e z;
+            shared = (t .3 ∙ ap (sharedBy a) i ∙ sym (r .3)) z;
+            size = (t .4 ∙ ap (nameSize (a .words)) i ∙ sym (r .4)) z;
+            least = (t .5 ∙ ap (λ (x : ℕ). leastAt a (nameSize (a .words) x)) i ∙ sym (r .5)) z;
+          }
 
   -- ---- demand 3
 
@@ -289,7 +336,7 @@ module _ {A : Type 0} (s : Lending A) (lends : Lends s) (a : Question A) where
           counted = λ e. ap touchesIn (answered-by e .form);
           larger = λ n h e.
               let r = more n h e in
-              (r, ap (λ (x : Answer). s .written (a .words) (featuresOf (a .query)) (givenBy x (found a)) (a .lent)) r);
+              (r, ap (λ (x : Answer). s .written (a .words) (a .measure) (a .p) (a .q) (featuresOf (a .query)) (givenBy x (found a)) (a .lent)) r);
           a-size = a-size;
           no-size = no-size;
           in-all = touches-all (a .words) (admitted-by .good) (a .measure) (a .p) (a .q) (admitted-by .known) (admitted-by .exact) (featuresOf (a .query)) asks;

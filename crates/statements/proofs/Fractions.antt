@@ -1,8 +1,8 @@
 -- Two thresholds that are one fraction, as 70/100 and 7/10, give one answer, one list and one text.
 -- Assumes nothing.
-use mathlib.Core.Path.{_≡_, refl, sym, ap, ap₂, _∙_}
+use mathlib.Core.Path.{_≡_, refl, sym, ap, ap₂, fun-ext, _∙_}
 use mathlib.Core.Bool.{Bool, true, cond, _&&_}
-use mathlib.Core.List.{List, [], _∷_}
+use mathlib.Core.List.{List, [], _∷_, map}
 use Prim.Native.Nat.{ℕ, _*_, _≤_, _<_}
 use native.Mathlib.Omega.{arith}
 use lib.ListN.{length}
@@ -20,8 +20,8 @@ use Rattle.likeness.proofs.Least.{least-equal}
 use Rattle.likeness.proofs.Terms.{lowest-equal}
 use Rattle.words.specs.Words.{nameCount, nameId, nameSize}
 use Rattle.candidates.specs.Method.{remains, laterCount}
-use Rattle.sizes.specs.Method.{listsFor, touchesAt, sizesEnd, touchesOfSize, touchesOf, listed, answersOf}
-use Rattle.search.specs.Answers.{questionOf, refusalOf, searchGoodOf, searchOf, givenBy, columnsOf}
+use Rattle.sizes.specs.Method.{listsFor, touchesAt, sizesEnd, sharedWith, touchesOfSize, touchesOf, listed, answersOf}
+use Rattle.search.specs.Answers.{questionOf, refusalOf, searchGoodOf, searchOf, givenBy, asColumns, leastFor, columnsOf}
 use Rattle.search.specs.declared.Answer.{Answer}
 use Rattle.search.specs.declared.Answer.the-variants.{Found, Refused}
 use Rattle.fields.specs.Layouts.{Fitting, lineOf, longestName}
@@ -29,6 +29,7 @@ use Rattle.fields.proofs.Laws.{fitting-named, frame-written, fields-written, na
 use Rattle.frames.specs.Frames.{queryFrame}
 use Rattle.answers.specs.Output.{answerText, rowsLent, answerOf}
 use Rattle.statements.specs.Demands.{Lending, columns, records, Question, GoodThreshold, SameFraction, Fractions, SameFrames}
+use Rattle.statements.proofs.Lent.{Lends, columns-lend, records-lend}
 
 module _ (w : List ℕ) (m p q p′ q′ : ℕ) (good : GoodThreshold p q) (good′ : GoodThreshold p′ q′) (e : p * q′ ≡ p′ * q) where
   g : goodThreshold p q ≡ true
@@ -68,6 +69,10 @@ module _ (w : List ℕ) (m p q p′ q′ : ℕ) (good : GoodThreshold p q) (good
     unfolding answersOf
     found-equal = passing-ext (nameCount w) (listed w m p q query) (listed w m p′ q′ query) (λ i h. listed-equal i)
 
+    -- and each row has one least count
+    least-same : leastFor w m p q query ≡ leastFor w m p′ q′ query
+    least-same = fun-ext (λ (i : ℕ). least-equal m p q p′ q′ (length query) (nameSize w i) g g′ e)
+
   module _ (query : List ℕ) (allowance room : ℕ) where
     -- the answer, from what it depends on
     answerFrom : ℕ → List ℕ → Threshold → Answer
@@ -94,26 +99,34 @@ module _ (w : List ℕ) (m p q p′ q′ : ℕ) (good : GoodThreshold p q) (good
         ≡ f (searchOf query m p′ q′ allowance w room) (givenBy (searchOf query m p′ q′ allowance w room) (answersOf w m p′ q′ (featuresOf query)))
     made-equal f = ap₂ (λ (r : Answer) (l : List ℕ). f r (givenBy r l)) answer-equal (found-equal (featuresOf query))
 
-same-fraction : {A : Type 0} (s : Lending A) (a : Question A) → SameFraction A s a
-same-fraction {A} s a p q good good′ e = (
+same-fraction : {A : Type 0} (s : Lending A) (lends : Lends s) (a : Question A) → SameFraction A s a
+same-fraction {A} s lends a p q good good′ e = (
   sym (answer-equal (a .words) (a .measure) (a .p) (a .q) p q good good′ e (a .query) (a .allowance) (s .room (a .lent))),
-  sym (made-equal (a .words) (a .measure) (a .p) (a .q) p q good good′ e (a .query) (a .allowance) (s .room (a .lent))
-      {B = A} (λ r places. s .written (a .words) (featuresOf (a .query)) places (a .lent))),
+  sym
+      (made-equal (a .words) (a .measure) (a .p) (a .q) p q good good′ e (a .query) (a .allowance) (s .room (a .lent))
+      {B = A} (λ r places. s .written (a .words) (a .measure) (a .p) (a .q) (featuresOf (a .query)) places (a .lent))
+      ∙ lends .alike (a .words) (a .words) (a .measure) (a .p) (a .q) p q (featuresOf (a .query)) _ (a .lent)
+      (λ i m t. record {
+        id = nameId (a .words) i;
+        shared = sharedWith (a .words) (featuresOf (a .query)) i;
+        size = nameSize (a .words) i;
+        least = least-same (a .words) (a .measure) (a .p) (a .q) p q good good′ e (featuresOf (a .query)) t i;
+      })),
 )
 
 pub fractions : Fractions
-fractions = (same-fraction columns, same-fraction records)
+fractions = (same-fraction columns columns-lend, same-fraction records records-lend)
 
 -- ---- in frames
 
 -- the lines of an answer, from the places that it gives
-linesFrom : List ℕ → List ℕ → Answer → List ℕ → List ℕ
-linesFrom w query r places = answerText r (columnsOf w (featuresOf query) places)
+linesFrom : List ℕ → ℕ → ℕ → ℕ → List ℕ → Answer → List ℕ → List ℕ
+linesFrom w m p q query r places = answerText r (columnsOf w m p q (featuresOf query) places)
 
 -- a 51 line that was written is answered by the search that its fields and its query ask for
 answer-line : (w query : List ℕ) (m p q allowance : ℕ) → Bytes query → length query ≤ longestName → m < 256 → allowance < 4294967296 → GoodThreshold p q
     → answerOf w (lineOf queryFrame (m ∷ p ∷ q ∷ allowance ∷ []) query)
-    ≡ linesFrom w query (searchOf query m p q allowance w rowsLent)
+    ≡ linesFrom w m p q query (searchOf query m p q allowance w rowsLent)
     (givenBy (searchOf query m p q allowance w rowsLent) (answersOf w m p q (featuresOf query)))
 unfolding answerOf linesFrom
 answer-line w query m p q allowance b n i k good =
@@ -124,7 +137,15 @@ answer-line w query m p q allowance b n i k good =
     rw (frame-written queryFrame f query fits, fields-written queryFrame f query fits, name-written queryFrame f query fits)
 
 pub same-frames : SameFrames
+unfolding linesFrom
 same-frames w query m p q p′ q′ allowance b n i k good good′ e =
     answer-line w query m p q allowance b n i k good
-    ∙ made-equal w m p q p′ q′ good good′ e query allowance rowsLent (linesFrom w query)
+    ∙ made-equal w m p q p′ q′ good good′ e query allowance rowsLent (linesFrom w m p q query)
+    ∙ lines-equal (searchOf query m p′ q′ allowance w rowsLent) (givenBy (searchOf query m p′ q′ allowance w rowsLent) (answersOf w m p′ q′ (featuresOf query)))
     ∙ sym (answer-line w query m p′ q′ allowance b n i k good′)
+  where
+    lines-equal : (r : Answer) (places : List ℕ) → linesFrom w m p q query r places ≡ linesFrom w m p′ q′ query r places
+    lines-equal r places =
+        ap
+        (λ (f : ℕ → ℕ). answerText r (asColumns (map (nameId w) places) (map (sharedWith w (featuresOf query)) places) (map (nameSize w) places) (map f places)))
+        (least-same w m p q p′ q′ good good′ e (featuresOf query))

@@ -10,7 +10,7 @@ use Rattle.laws.specs.Lists.{member}
 use Rattle.laws.proofs.Members.{member-head, member-tail}
 use Rattle.words.specs.Words.{nameId, nameSize}
 use Rattle.sizes.specs.Method.{sharedWith}
-use Rattle.search.specs.Answers.{over, columnsOf, columnsOver}
+use Rattle.search.specs.Answers.{over, leastFor, columnsOf, columnsOver}
 use Rattle.search.proofs.Listed.{over-beyond}
 use Rattle.rows.specs.Rows.{rowOf, recordsOf, overRows}
 use Rattle.rows.specs.declared.Row.{Row}
@@ -18,12 +18,15 @@ use Rattle.rows.proofs.Laws.{over-columns}
 use Rattle.statements.specs.Demands.{Lending, columns, records}
 
 pub record Lends {A : Type 0} (s : Lending A) : Type 0 where
-  pub rows : (w query places : List ℕ) (l : A) → s .rows (s .written w query places l) ≡ columnsOver (columnsOf w query places) (s .rows l)
-  pub behind : (w query places : List ℕ) (l : A) → s .behind (length places) (s .written w query places l) ≡ s .behind (length places) l
-  pub none : (w query : List ℕ) (l : A) → s .written w query [] l ≡ l
-  -- names with the same rows are written alike
-  pub alike : (w v query places : List ℕ) (l : A) → ((i : ℕ) → member i places ≡ true → rowOf w query i ≡ rowOf v query i)
-      → s .written w query places l ≡ s .written v query places l
+  pub rows : (w : List ℕ) (m p q : ℕ) (query places : List ℕ) (l : A)
+      → s .rows (s .written w m p q query places l) ≡ columnsOver (columnsOf w m p q query places) (s .rows l)
+  pub behind : (w : List ℕ) (m p q : ℕ) (query places : List ℕ) (l : A)
+      → s .behind (length places) (s .written w m p q query places l) ≡ s .behind (length places) l
+  pub none : (w : List ℕ) (m p q : ℕ) (query : List ℕ) (l : A) → s .written w m p q query [] l ≡ l
+  -- names with the same rows are written alike, from other words or at another threshold
+  pub alike : (w v : List ℕ) (m p q p′ q′ : ℕ) (query places : List ℕ) (l : A)
+      → ((i : ℕ) → member i places ≡ true → rowOf w m p q query i ≡ rowOf v m p′ q′ query i)
+      → s .written w m p q query places l ≡ s .written v m p′ q′ query places l
 
 map-members : {B : Type 0} (f g : ℕ → B) (l : List ℕ) → ((x : ℕ) → member x l ≡ true → f x ≡ g x) → map f l ≡ map g l
 map-members f g [] e = refl
@@ -38,19 +41,21 @@ beyond f places l =
 pub columns-lend : Lends columns
 columns-lend =
     record {
-      rows = λ w query places l. refl;
-      behind = λ w query places l t.
+      rows = λ w m p q query places l. refl;
+      behind = λ w m p q query places l t.
           record {
             ids = beyond (nameId w) places (l .ids) t;
             shared = beyond (sharedWith w query) places (l .shared) t;
             sizes = beyond (nameSize w) places (l .sizes) t;
+            least = beyond (leastFor w m p q query) places (l .least) t;
           };
-      none = λ w query l. refl;
-      alike = λ w v query places l e t.
+      none = λ w m p q query l. refl;
+      alike = λ w v m p q p′ q′ query places l e t.
           record {
             ids = over (map-members (nameId w) (nameId v) places (λ i m. ap (λ (r : Row). r .id) (e i m)) t) (l .ids);
             shared = over (map-members (sharedWith w query) (sharedWith v query) places (λ i m. ap (λ (r : Row). r .shared) (e i m)) t) (l .shared);
             sizes = over (map-members (nameSize w) (nameSize v) places (λ i m. ap (λ (r : Row). r .size) (e i m)) t) (l .sizes);
+            least = over (map-members (leastFor w m p q query) (leastFor v m p′ q′ query) places (λ i m. ap (λ (r : Row). r .least) (e i m)) t) (l .least);
           };
     }
 
@@ -58,11 +63,11 @@ pub records-lend : Lends records
 records-lend =
     record {
       rows = over-columns;
-      behind = λ w query places l.
-          let n : length (recordsOf w query places) ≡ length places = length-map places (rowOf w query) in
-          ap (λ (m : ℕ). drop m (records .written w query places l)) (sym n)
-          ∙ drop-append-seam (recordsOf w query places) (drop (length (recordsOf w query places)) l)
-          ∙ ap (λ (m : ℕ). drop m l) n;
-      none = λ w query l. refl;
-      alike = λ w v query places l e. ap (λ (rows : List Row). overRows rows l) (map-members (rowOf w query) (rowOf v query) places e);
+      behind = λ w m p q query places l.
+          let n : length (recordsOf w m p q query places) ≡ length places = length-map places (rowOf w m p q query) in
+          ap (λ (k : ℕ). drop k (records .written w m p q query places l)) (sym n)
+          ∙ drop-append-seam (recordsOf w m p q query places) (drop (length (recordsOf w m p q query places)) l)
+          ∙ ap (λ (k : ℕ). drop k l) n;
+      none = λ w m p q query l. refl;
+      alike = λ w v m p q p′ q′ query places l e. ap (λ (rows : List Row). overRows rows l) (map-members (rowOf w m p q query) (rowOf v m p′ q′ query) places e);
     }

@@ -15,7 +15,7 @@ use Rattle.names.specs.Shared.{sharedOf}
 use Rattle.words.specs.Words.{nameSize}
 use Rattle.lists.specs.Lists.{featuresIn}
 use Rattle.search.specs.Answers.{rowsIn}
-use Rattle.statements.specs.Demands.{Lending, columns, records, Question, answer, after, Answered, sharedBy, Reaches, rowIds, Demand2, Names, Holds, sharedWithName, Listing, Listings}
+use Rattle.statements.specs.Demands.{Lending, columns, records, Question, answer, after, Answered, sharedBy, Reaches, leastAt, rowIds, Demand2, Names, Holds, sharedWithName, Listing, Listings}
 use Rattle.statements.proofs.Lent.{Lends, columns-lend, records-lend}
 use Rattle.statements.proofs.Demands.{demands}
 
@@ -59,12 +59,13 @@ module _ {A : Type 0} (s : Lending A) (lends : Lends s) (names : Names) (a : Que
           × (getD (s .rows (after s a) .ids) j 0 ≡ names .id i)
           × (getD (s .rows (after s a) .shared) j 0 ≡ sharedWithName names a i)
           × (getD (s .rows (after s a) .sizes) j 0 ≡ length (names .features i))
+          × (getD (s .rows (after s a) .least) j 0 ≡ leastAt a (length (names .features i)))
       true-rows j l =
           let r = d .true-rows j l in
           let c = holds .count in
           let there = r .1 in
           let h : r .0 < names .count = omega arith in
-          (r .0, h, r .2 ∙ holds .id (r .0) h, r .3 ∙ shared-name (r .0) h, r .4 ∙ holds .size (r .0) h)
+          (r .0, h, r .2 ∙ holds .id (r .0) h, r .3 ∙ shared-name (r .0) h, r .4 ∙ holds .size (r .0) h, r .5 ∙ ap (leastAt a) (holds .size (r .0) h))
 
       twins : (i j : ℕ) → i < names .count → j < names .count → names .features i ≡ names .features j
           → (member (names .id i) (rowIds s a) ≡ true) ↔ (member (names .id j) (rowIds s a) ≡ true)

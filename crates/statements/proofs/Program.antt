@@ -20,7 +20,7 @@ use Rattle.lines.specs.Lines.{linesOf}
 use Rattle.register.specs.Build.{builtOf, wordsAfter}
 use Rattle.words.specs.Words.{nameId, nameSize}
 use Rattle.sizes.specs.Method.{sharedWith}
-use Rattle.search.specs.Answers.{numberIn, rowsIn, touchesIn, searchOf, givenBy, Columns, roomOf, over}
+use Rattle.search.specs.Answers.{numberIn, rowsIn, touchesIn, searchOf, givenBy, Columns, roomOf, leastFor, over}
 use Rattle.search.specs.declared.Answer.{Answer}
 use Rattle.search.specs.declared.Answer.the-variants.{Found, Refused}
 use Rattle.search.proofs.Outcomes.{given-found, answered}
@@ -86,6 +86,7 @@ module _ (input line : List ℕ) (query : isFrame queryFrame line ≡ true) wher
       (column-at (nameId w) _ _ (replicate rowsLent 0) k e h t)
       (column-at (sharedWith w (featuresOf (queryIn line))) _ _ (replicate rowsLent 0) k e h t)
       (column-at (nameSize w) _ _ (replicate rowsLent 0) k e h t)
+      (column-at (leastFor w (measureIn line) (pIn line) (qIn line) (featuresOf (queryIn line))) _ _ (replicate rowsLent 0) k e h t)
 
   -- the end of the answer, with so many rows
   end : ℕ → List (List ℕ)

@@ -40,7 +40,7 @@ use Rattle.candidates.specs.Method.{signatures, signaturePostings}
 use Rattle.sizes.specs.Method.{namesOf, listsFor, remaining, touchesOfSize, touchesOf, answersOf}
 use Rattle.search.specs.Answers.{numberIn, rowsIn, touchesIn, thresholdP, thresholdQ, refusalCases, searchOf, givenBy, Columns, roomOf, columnsOf, columnsOver}
 use Rattle.search.specs.declared.Answer.{Answer}
-use Rattle.rows.specs.Rows.{recordsOf, overRows, columnsIn}
+use Rattle.rows.specs.Rows.{recordsOf, overRows, columnsIn, rowAcross}
 use Rattle.rows.specs.declared.Row.{Row as Record}
 use Rattle.answers.specs.Output.{answerOf}
 
@@ -54,8 +54,9 @@ pub record Lending (A : Type 0) : Type 0 where
   pub rows : A → Columns
   -- what stands after the first n rows
   pub behind : ℕ → A → A
-  -- what stands there once the rows of some names are written: of the words, the query's features and the names' places among the names
-  pub written : List ℕ → List ℕ → List ℕ → A → A
+  -- what stands there once the rows of some names are written: of the words, the measure and the threshold, the query's features and the names' places
+  -- among the names
+  pub written : List ℕ → ℕ → ℕ → ℕ → List ℕ → List ℕ → A → A
 
 -- columns, as they are lent to `search`
 abbrev pub columns : Lending Columns
@@ -63,8 +64,8 @@ columns =
     record {
       room = roomOf;
       rows = λ (c : Columns). c;
-      behind = λ (n : ℕ) (c : Columns). record { ids = drop n (c .ids); shared = drop n (c .shared); sizes = drop n (c .sizes) };
-      written = λ (w query places : List ℕ) (c : Columns). columnsOver (columnsOf w query places) c;
+      behind = λ (n : ℕ) (c : Columns). record { ids = drop n (c .ids); shared = drop n (c .shared); sizes = drop n (c .sizes); least = drop n (c .least) };
+      written = λ (w : List ℕ) (m p q : ℕ) (query places : List ℕ) (c : Columns). columnsOver (columnsOf w m p q query places) c;
     }
 
 -- a list of records, as it is lent to `search_rows`, has room for as many rows as it has records
@@ -74,7 +75,7 @@ records =
       room = λ (l : List Record). length l;
       rows = columnsIn;
       behind = λ (n : ℕ) (l : List Record). drop n l;
-      written = λ (w query places : List ℕ) (l : List Record). overRows (recordsOf w query places) l;
+      written = λ (w : List ℕ) (m p q : ℕ) (query places : List ℕ) (l : List Record). overRows (recordsOf w m p q query places) l;
     }
 
 -- ---- a search
@@ -111,7 +112,7 @@ found a = answersOf (a .words) (a .measure) (a .p) (a .q) (featuresOf (a .query)
 
 -- what is lent, afterwards
 abbrev pub after : {A : Type 0} → Lending A → Question A → A
-after s a = s .written (a .words) (featuresOf (a .query)) (givenBy (answer s a) (found a)) (a .lent)
+after s a = s .written (a .words) (a .measure) (a .p) (a .q) (featuresOf (a .query)) (givenBy (answer s a) (found a)) (a .lent)
 
 -- ---- demand 1: a list or a numbered refusal
 
@@ -171,6 +172,24 @@ Reaches a x y c =
     (numerator (measureOf (a .measure)) c)
     (denominator (measureOf (a .measure)) x y c)
 
+-- the least count at size y: the first count from 1 that is similar there
+abbrev pub leastAt : {A : Type 0} → Question A → ℕ → ℕ
+leastAt a y = leastCount (a .measure) (a .p) (a .q) (length (featuresOf (a .query))) y
+
+-- row j of some columns is a name's: its id, its true shared count and size, and the least count at that size
+abbrev pub TrueRow : {A : Type 0} → Question A → Columns → ℕ → Type 0
+TrueRow a c j =
+    (i : ℕ)
+    × (i < nameCount (a .words))
+    × (getD (c .ids) j 0 ≡ nameId (a .words) i)
+    × (getD (c .shared) j 0 ≡ sharedBy a i)
+    × (getD (c .sizes) j 0 ≡ nameSize (a .words) i)
+    × (getD (c .least) j 0 ≡ leastAt a (nameSize (a .words) i))
+
+-- row j of what is left
+abbrev pub rowAt : {A : Type 0} → Lending A → Question A → ℕ → Record
+rowAt s a j = rowAcross (s .rows (after s a)) j
+
 -- the ids of the rows
 abbrev pub rowIds : {A : Type 0} → Lending A → Question A → List ℕ
 rowIds s a = take (rowsIn (answer s a)) (s .rows (after s a) .ids)
@@ -180,13 +199,18 @@ pub record Demand2 {A : Type 0} (s : Lending A) (a : Question A) : Type 0 where
   pub exactly : (i : ℕ) → i < nameCount (a .words)
       → (member (nameId (a .words) i) (rowIds s a) ≡ true)
       ↔ Reaches a (length (featuresOf (a .query))) (nameSize (a .words) i) (sharedBy a i)
-  -- each row is a name's, with its true shared count and size
-  pub true-rows : (j : ℕ) → j < rowsIn (answer s a)
-      → (i : ℕ)
-      × (i < nameCount (a .words))
-      × (getD (s .rows (after s a) .ids) j 0 ≡ nameId (a .words) i)
-      × (getD (s .rows (after s a) .shared) j 0 ≡ sharedBy a i)
-      × (getD (s .rows (after s a) .sizes) j 0 ≡ nameSize (a .words) i)
+  -- each row is a name's, with its true shared count and size, and the least count at that size
+  pub true-rows : (j : ℕ) → j < rowsIn (answer s a) → TrueRow a (s .rows (after s a)) j
+  -- so a row's least count is that of the query's size and the row's size
+  pub least : (j : ℕ) → j < rowsIn (answer s a) → rowAt s a j .least ≡ leastAt a (rowAt s a j .size)
+  -- it is at least 1, and at most the row's shared count
+  pub reached : (j : ℕ) → j < rowsIn (answer s a) → (1 ≤ rowAt s a j .least) × (rowAt s a j .least ≤ rowAt s a j .shared)
+  -- rows of one size have one least count
+  pub same-size : (j k : ℕ) → j < rowsIn (answer s a) → k < rowsIn (answer s a) → rowAt s a j .size ≡ rowAt s a k .size
+      → rowAt s a j .least ≡ rowAt s a k .least
+  -- two programs agree on a row: a true row of any other columns with the same id has the same shared count, size and least count
+  pub agreed : (c : Columns) (k : ℕ) → TrueRow a c k → (j : ℕ) → j < rowsIn (answer s a) → getD (c .ids) k 0 ≡ rowAt s a j .id
+      → rowAcross c k ≡ rowAt s a j
   -- by ascending id, and so once each
   pub ascending : Ascending (rowIds s a)
   -- as many as the answer says, and within the room
@@ -212,10 +236,7 @@ withAllowance n a =
       lent = a .lent;
     }
 
--- the least count at size y, the lists of the query's features there in their order, the signature postings S and the candidates C
-abbrev pub leastAt : {A : Type 0} → Question A → ℕ → ℕ
-leastAt a y = leastCount (a .measure) (a .p) (a .q) (length (featuresOf (a .query))) y
-
+-- at size y the lists of the query's features in their order, the signature postings S and the candidates C
 abbrev pub listsAt : {A : Type 0} → Question A → ℕ → List (List ℕ)
 listsAt a y = listsFor (a .words) y (featuresOf (a .query))
 
@@ -341,7 +362,8 @@ pub record Holds (words : List ℕ) (names : Names) : Type 0 where
 abbrev pub sharedWithName : {A : Type 0} → Names → Question A → ℕ → ℕ
 sharedWithName names a i = sharedOf (featuresOf (a .query)) (names .features i)
 
--- listed are exactly those of the names that are similar by their features, each with its true shared count and size, by ascending id
+-- listed are exactly those of the names that are similar by their features, each with its true shared count and size and the least count at that size,
+-- by ascending id
 pub record Listing {A : Type 0} (s : Lending A) (names : Names) (a : Question A) : Type 0 where
   pub exactly : (i : ℕ) → i < names .count
       → (member (names .id i) (rowIds s a) ≡ true)
@@ -352,6 +374,7 @@ pub record Listing {A : Type 0} (s : Lending A) (names : Names) (a : Question A)
       × (getD (s .rows (after s a) .ids) j 0 ≡ names .id i)
       × (getD (s .rows (after s a) .shared) j 0 ≡ sharedWithName names a i)
       × (getD (s .rows (after s a) .sizes) j 0 ≡ length (names .features i))
+      × (getD (s .rows (after s a) .least) j 0 ≡ leastAt a (length (names .features i)))
   pub ascending : Ascending (rowIds s a)
   -- names with the same features, as equal names under two ids have them, are listed both or neither
   pub twins : (i j : ℕ) → i < names .count → j < names .count → names .features i ≡ names .features j
@@ -427,8 +450,8 @@ pub record Frames : Type 0 where
   pub query-buffer : (measure p q allowance : ℕ) (query buffer : List ℕ) → measure < 256 → p < 65536 → q < 65536 → allowance < 4294967296
       → Bytes query → length query ≤ longestName → length query ≤ length buffer
       → bufferOf queryFrame (lineOf queryFrame (measure ∷ p ∷ q ∷ allowance ∷ []) query) buffer ≡ query ++ drop (length query) buffer
-  pub row-back : (id shared size : ℕ) → id < 65536 → shared < 256 → size < 256
-      → readOf rowFrame (lineOf rowFrame (id ∷ shared ∷ size ∷ []) []) 0 ≡ rowOut (Row id shared size)
+  pub row-back : (id shared size least : ℕ) → id < 65536 → shared < 256 → size < 256 → least < 256
+      → readOf rowFrame (lineOf rowFrame (id ∷ shared ∷ size ∷ least ∷ []) []) 0 ≡ rowOut (Row id shared size least)
   pub end-back : (rows touches p q : ℕ) → rows < 65536 → touches < 4294967296 → p < 65536 → q < 65536
       → readOf endFrame (lineOf endFrame (rows ∷ touches ∷ p ∷ q ∷ []) []) 0 ≡ endOut (End rows touches p q)
   pub refusal-back : (number touches : ℕ) → number < 256 → touches < 4294967296
@@ -437,8 +460,8 @@ pub record Frames : Type 0 where
       → lineOf nameFrame (r .id ∷ []) (nameIn nameFrame l) ≡ l
   pub query-again : (l : List ℕ) (room : ℕ) (r : QueryRead) → queryOut r ≡ readOf queryFrame l room → r .number ≡ 0
       → lineOf queryFrame (r .measure ∷ r .p ∷ r .q ∷ r .allowance ∷ []) (nameIn queryFrame l) ≡ l
-  pub row-again : (l : List ℕ) (id shared size : ℕ) → rowOut (Row id shared size) ≡ readOf rowFrame l 0
-      → lineOf rowFrame (id ∷ shared ∷ size ∷ []) [] ≡ l
+  pub row-again : (l : List ℕ) (id shared size least : ℕ) → rowOut (Row id shared size least) ≡ readOf rowFrame l 0
+      → lineOf rowFrame (id ∷ shared ∷ size ∷ least ∷ []) [] ≡ l
   pub end-again : (l : List ℕ) (rows touches p q : ℕ) → endOut (End rows touches p q) ≡ readOf endFrame l 0
       → lineOf endFrame (rows ∷ touches ∷ p ∷ q ∷ []) [] ≡ l
   pub refusal-again : (l : List ℕ) (number touches : ℕ) → refusalOut (Refusal number touches) ≡ readOf refusalFrame l 0

@@ -17,7 +17,7 @@ use Rattle.likeness.specs.Least.{leastCount}
 use Rattle.likeness.specs.Terms.{lowestTerms}
 use Rattle.index_writer.specs.Built.{Entry, wordsOf}
 use Rattle.sizes.specs.Method.{sizesEnd, sharedWith, touchesOfSize, touchesOf, answersOf}
-use Rattle.search.specs.Answers.{numberIn, searchOf}
+use Rattle.search.specs.Answers.{numberIn, searchOf, leastFor}
 
 -- ---- the names of the figures
 
@@ -111,6 +111,10 @@ lists w m p q query n = record { is = length (answersOf w m p q (featuresOf quer
 abbrev pub sharesAt : List ℕ → List ℕ → ℕ → ℕ → Figure
 sharesAt w query i n = record { is = sharedWith w (featuresOf query) i; should = n }
 
+-- the least count of the row of the name at a place
+abbrev pub leastAt : List ℕ → ℕ → ℕ → ℕ → List ℕ → ℕ → ℕ → Figure
+leastAt w m p q query i n = record { is = leastFor w m p q (featuresOf query) i; should = n }
+
 -- the number of a search with an allowance and room for three rows, 0 where it is answered
 abbrev pub answers : List ℕ → ℕ → ℕ → ℕ → List ℕ → ℕ → ℕ → Figure
 answers w m p q query allowance n = record { is = numberIn (searchOf query m p q allowance w 3); should = n }
@@ -147,6 +151,9 @@ figures =
     ∷ touchesAtSize lanesIndex 1 8 13 lane 7 9
     ∷ touches lanesIndex 1 8 13 lane 15
     ∷ lists lanesIndex 1 8 13 lane 3
+    ∷ leastAt lanesIndex 1 8 13 lane 0 4
+    ∷ leastAt lanesIndex 1 8 13 lane 1 4
+    ∷ leastAt lanesIndex 1 8 13 lane 2 4
     ∷ answers lanesIndex 1 8 13 lane 15 0
     ∷ answers lanesIndex 1 8 13 lane 14 7
     ∷ []

@@ -38,7 +38,7 @@ asks line =
       q = qIn line;
       allowance = allowanceIn line;
       words = [];
-      lent = record { ids = replicate rowsLent 0; shared = replicate rowsLent 0; sizes = replicate rowsLent 0 };
+      lent = record { ids = replicate rowsLent 0; shared = replicate rowsLent 0; sizes = replicate rowsLent 0; least = replicate rowsLent 0 };
     }
 
 -- and of what: the index of the input's register

@@ -62,19 +62,19 @@ module _ (query : List ℕ) (m p q allowance : ℕ) (w : List ℕ) (room : ℕ) 
       by-test true false true e = omega arith
       by-test true false false e = ltb-false room (rowsIn found) e
 
--- and so within each of the three columns
+-- and so within each of the four columns
 pub columns-within : (query : List ℕ) (m p q allowance : ℕ) (w : List ℕ) (c : Columns)
     → let r = searchAnswer (searchOf query m p q allowance w (roomOf c)) .rows in
-    (r ≤ length (c .ids)) × (r ≤ length (c .shared)) × (r ≤ length (c .sizes))
+    (r ≤ length (c .ids)) × (r ≤ length (c .shared)) × (r ≤ length (c .sizes)) × (r ≤ length (c .least))
 columns-within query m p q allowance w c =
     let h = rows-within query m p q allowance w (roomOf c) in
-    (omega arith, omega arith, omega arith)
+    (omega arith, omega arith, omega arith, omega arith)
 
 -- a refused search keeps every column
 pub columns-kept : (query : List ℕ) (m p q allowance : ℕ) (w : List ℕ) (c : Columns)
     → (searchAnswer (searchOf query m p q allowance w (roomOf c)) .number ≡ 0 → ⊥) → columnsAfter query m p q allowance w c ≡ c
 columns-kept query m p q allowance w c n =
-    ap (λ (l : List ℕ). columnsOver (columnsOf w (featuresOf query) l) c) (refused-gives (searchOf query m p q allowance w (roomOf c)) (answersOf w m p q (featuresOf query)) n)
+    ap (λ (l : List ℕ). columnsOver (columnsOf w m p q (featuresOf query) l) c) (refused-gives (searchOf query m p q allowance w (roomOf c)) (answersOf w m p q (featuresOf query)) n)
 
 -- and every record
 pub records-kept : (query : List ℕ) (m p q allowance : ℕ) (w : List ℕ) (rows : List Row)

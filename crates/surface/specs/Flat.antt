@@ -52,7 +52,8 @@ queryAnswer r =
     record { number = r .number; measure = getD (r .fields) 0 0; p = getD (r .fields) 1 0; q = getD (r .fields) 2 0; allowance = getD (r .fields) 3 0; len = r .len }
 
 abbrev pub rowAnswer : Reading → RowAnswer
-rowAnswer r = record { number = r .number; id = getD (r .fields) 0 0; shared = getD (r .fields) 1 0; size = getD (r .fields) 2 0 }
+rowAnswer r =
+    record { number = r .number; id = getD (r .fields) 0 0; shared = getD (r .fields) 1 0; size = getD (r .fields) 2 0; least = getD (r .fields) 3 0 }
 
 abbrev pub endAnswer : Reading → EndAnswer
 endAnswer r =

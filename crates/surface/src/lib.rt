@@ -78,6 +78,7 @@ pub struct RowAnswer {
     pub id: u16,
     pub shared: u8,
     pub size: u8,
+    pub least: u8,
 }
 
 #[repr(C)]
@@ -188,7 +189,7 @@ fn flat(answer: Answer) -> SearchAnswer
     }
 }
 
-// The counted search. Row k of an answer is place k of each of the three columns.
+// The counted search. Row k of an answer is place k of each of the four columns.
 #[no_mangle]
 pub extern "C" fn rushgirdle_search(
     query: &[u8],
@@ -200,11 +201,23 @@ pub extern "C" fn rushgirdle_search(
     ids: &mut [u32],
     shared: &mut [u32],
     sizes: &mut [u32],
+    least: &mut [u32],
 ) -> SearchAnswer
-    ensures { λ r. ⌜ r ≡ searchAnswer (searchOf (now (query .entry)) measure p q allowance (now (words .entry)) (roomOf (asColumns (now (ids .entry)) (now (shared .entry)) (now (sizes .entry))))) ⌝ }
-    ensures { λ _. ⌜ asColumns (now (ids .exit)) (now (shared .exit)) (now (sizes .exit)) ≡ columnsAfter (now (query .entry)) measure p q allowance (now (words .entry)) (asColumns (now (ids .entry)) (now (shared .entry)) (now (sizes .entry))) ⌝ }
+    ensures { λ r. ⌜ r ≡ searchAnswer (searchOf (now (query .entry)) measure p q allowance (now (words .entry)) (roomOf (asColumns (now (ids .entry)) (now (shared .entry)) (now (sizes .entry)) (now (least .entry))))) ⌝ }
+    ensures { λ _. ⌜ asColumns (now (ids .exit)) (now (shared .exit)) (now (sizes .exit)) (now (least .exit)) ≡ columnsAfter (now (query .entry)) measure p q allowance (now (words .entry)) (asColumns (now (ids .entry)) (now (shared .entry)) (now (sizes .entry)) (now (least .entry))) ⌝ }
 {
-    flat(search::search(query, measure, p, q, allowance, words, ids, shared, sizes))
+    flat(search::search(
+        query,
+        measure,
+        p,
+        q,
+        allowance,
+        words,
+        ids,
+        shared,
+        sizes,
+        least,
+    ))
 }
 
 // The counted search, its answers written as records.
@@ -307,17 +320,24 @@ pub extern "C" fn rushgirdle_read_row(line: &[u8]) -> RowAnswer
 {
     let r = frames::read_row(line);
     match r {
-        frames::RowRead::Row { id, shared, size } => RowAnswer {
+        frames::RowRead::Row {
+            id,
+            shared,
+            size,
+            least,
+        } => RowAnswer {
             number: 0,
             id,
             shared,
             size,
+            least,
         },
         frames::RowRead::Malformed => RowAnswer {
             number: 11,
             id: 0,
             shared: 0,
             size: 0,
+            least: 0,
         },
     }
 }
@@ -421,11 +441,17 @@ pub extern "C" fn rushgirdle_write_query(
 
 // Writes a 52 line.
 #[no_mangle]
-pub extern "C" fn rushgirdle_write_row(out: &mut [u8], id: u16, shared: u8, size: u8) -> WriteAnswer
-    ensures { λ r. ⌜ r ≡ writeAnswer (writtenOf rowFrame (id ∷ shared ∷ size ∷ []) [] (length (now (out .entry)))) ⌝ }
-    ensures { λ _. ⌜ now (out .exit) ≡ outOf rowFrame (id ∷ shared ∷ size ∷ []) [] (now (out .entry)) ⌝ }
+pub extern "C" fn rushgirdle_write_row(
+    out: &mut [u8],
+    id: u16,
+    shared: u8,
+    size: u8,
+    least: u8,
+) -> WriteAnswer
+    ensures { λ r. ⌜ r ≡ writeAnswer (writtenOf rowFrame (id ∷ shared ∷ size ∷ least ∷ []) [] (length (now (out .entry)))) ⌝ }
+    ensures { λ _. ⌜ now (out .exit) ≡ outOf rowFrame (id ∷ shared ∷ size ∷ least ∷ []) [] (now (out .entry)) ⌝ }
 {
-    let w = frames::write_row(out, id, shared, size);
+    let w = frames::write_row(out, id, shared, size, least);
     WriteAnswer {
         number: w.number,
         len: w.len,

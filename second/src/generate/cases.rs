@@ -280,7 +280,7 @@ pub fn search(random: &mut Random) -> String {
     let words = words::any(random, &known, 1);
     let hints = [known.clone(), names::like(random, &known)];
     let query = queries::query(random, &words, &hints);
-    let mut rows = [AnswerRow { id: 0, shared: 0, size: 0 }; 257];
+    let mut rows = [AnswerRow { id: 0, shared: 0, size: 0, least: 0 }; 257];
     let all = Query { allowance: u32::MAX, ..query.clone() };
     let answers = search_words(&words, &all, &mut rows).rows;
     let room = match random.below(8) {
@@ -341,7 +341,7 @@ fn widths(kind: u8) -> &'static [usize] {
     match kind {
         frames::NAME => &[2],
         frames::QUERY => &[1, 2, 2, 4],
-        frames::ROW => &[2, 1, 1],
+        frames::ROW => &[2, 1, 1, 1],
         frames::END => &[2, 4, 2, 2],
         frames::LOG | frames::IMPORT_END => &[2, 2],
         frames::OUTCOME => &[1, 2],

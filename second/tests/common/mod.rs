@@ -6,7 +6,7 @@ use second::build::build;
 use second::search::{AnswerRow, Query};
 
 /// What a lent row holds before a search.
-pub const LENT: AnswerRow = AnswerRow { id: 7, shared: 7, size: 7 };
+pub const LENT: AnswerRow = AnswerRow { id: 7, shared: 7, size: 7, least: 7 };
 
 pub fn hex(bytes: &[u8]) -> String {
     bytes.iter().map(|byte| format!("{byte:02X}")).collect()
@@ -44,8 +44,8 @@ pub fn query(measure: u32, p: u32, q: u32, allowance: u32, name: &[u8]) -> Query
     Query { measure, p, q, allowance, name: name.to_vec() }
 }
 
-pub fn row(id: u32, shared: u32, size: u32) -> AnswerRow {
-    AnswerRow { id, shared, size }
+pub fn row(id: u32, shared: u32, size: u32, least: u32) -> AnswerRow {
+    AnswerRow { id, shared, size, least }
 }
 
 /// The register of the listing.

@@ -17,8 +17,11 @@ slice-aggregate-answer-with-3 c = search needs
 slice-aggregate-answer-with-4 : tie.Need-slice-aggregate-answer-with-4
 slice-aggregate-answer-with-4 c = search needs
 
+slice-aggregate-answer-with-5 : tie.Need-slice-aggregate-answer-with-5
+slice-aggregate-answer-with-5 c = search needs
+
 answer-with-requires : tie.Need-answer-with-requires
-answer-with-requires c κs = (λ e. absurd (false≢true e), refl, refl, refl, refl)
+answer-with-requires c κs = (λ e. absurd (false≢true e), refl, refl, refl, refl, refl)
 
 same-length : tie.Need-same-length
 same-length c = search needs
@@ -34,6 +37,7 @@ answer-spec =
     slice-aggregate-answer-with-2
     slice-aggregate-answer-with-3
     slice-aggregate-answer-with-4
+    slice-aggregate-answer-with-5
     answer-with-requires
     same-length
     returns)

@@ -28,7 +28,7 @@ same-length-2 c = search needs
 
 returns : tie.Need-returns
 returns c =
-    let b = c .before .before .before .before .before .before .before .before .before .before .before .before .before .before .before .before in
+    let b = c .before .before .before .before .before .before .before .before .before .before .before .before .before .before .before .before .before in
     let a = b .args in
     let y = c .before .before .before .before .before .before .before .read-query in
     let v = c .before .before .write-refusal .ensures in
@@ -39,14 +39,14 @@ returns c =
 
 slice-reshare-prefix-ask : tie.Need-slice-reshare-prefix-ask
 slice-reshare-prefix-ask c =
-    let b = c .before .before .before .before .before .before .before .before .before .before .before .before in
+    let b = c .before .before .before .before .before .before .before .before .before .before .before .before .before in
     let a = b .args in
     let y = c .before .before .before .read-query in
     query-within (a .line .now) (a .query .now) (y .last .1 .0) (y .result) (b .pre .1) (y .ensures .0) (y .ensures .1) (c .if1 .left)
 
 slice-aggregate-ask : tie.Need-slice-aggregate-ask
 slice-aggregate-ask c =
-    let b = c .before .before .before .before .before .before .before .before .before .before .before .before .before in
+    let b = c .before .before .before .before .before .before .before .before .before .before .before .before .before .before in
     let a = b .args in
     let y = c .before .before .before .before .read-query in
     sym (length-take-le (y .result .len) (y .last .1 .0) (query-within (a .line .now) (a .query .now) (y .last .1 .0) (y .result) (b .pre .1) (y .ensures .0) (y .ensures .1) (c .before .if1 .left)))
@@ -56,14 +56,14 @@ ask-requires c κs = search needs
 
 -- the search that was made
 searched : (c : tie.After-ask)
-    → let a = c .before .before .before .before .before .before .before .before .before .before .before .before .before .before .before .before .before .args in let y = c .before .before .before .before .before .before .before .before .read-query in let k = c .ask in (roomOf (asColumns (a .ids .now) (a .shared .now) (a .sizes .now)) ≡ rowsLent) × Searched (take (y .result .len) (y .last .1 .0)) (y .result .measure) (y .result .p) (y .result .q) (y .result .allowance) (a .words .now) (asColumns (a .ids .now) (a .shared .now) (a .sizes .now)) (asColumns (k .last .1 .1 .1 .1 .1 .1 .1 .0) (k .last .1 .1 .1 .1 .1 .1 .1 .1 .0) (k .last .1 .1 .1 .1 .1 .1 .1 .1 .1 .0)) (k .result)
+    → let a = c .before .before .before .before .before .before .before .before .before .before .before .before .before .before .before .before .before .before .before .args in let y = c .before .before .before .before .before .before .before .before .before .read-query in let k = c .ask in (roomOf (asColumns (a .ids .now) (a .shared .now) (a .sizes .now) (a .least .now)) ≡ rowsLent) × Searched (take (y .result .len) (y .last .1 .0)) (y .result .measure) (y .result .p) (y .result .q) (y .result .allowance) (a .words .now) (asColumns (a .ids .now) (a .shared .now) (a .sizes .now) (a .least .now)) (asColumns (k .last .1 .1 .1 .1 .1 .1 .1 .0) (k .last .1 .1 .1 .1 .1 .1 .1 .1 .0) (k .last .1 .1 .1 .1 .1 .1 .1 .1 .1 .0) (k .last .1 .1 .1 .1 .1 .1 .1 .1 .1 .1 .0)) (k .result)
 searched c =
-    let b = c .before .before .before .before .before .before .before .before .before .before .before .before .before .before .before .before .before in
+    let b = c .before .before .before .before .before .before .before .before .before .before .before .before .before .before .before .before .before .before .before in
     let a = b .args in
-    (room-lent (asColumns (a .ids .now) (a .shared .now) (a .sizes .now)) (b .pre .2) (b .pre .3) (b .pre .4), c .ask .ensures)
+    (room-lent (asColumns (a .ids .now) (a .shared .now) (a .sizes .now) (a .least .now)) (b .pre .2) (b .pre .3) (b .pre .4) (b .pre .5), c .ask .ensures)
 
 put-answer-requires : tie.Need-put-answer-requires
-put-answer-requires c κs = let k = searched (c .before .before .before .before .before .before .before .before .before .before) in shown _ _ _ _ _ _ _ _ _ (k .0) (k .1)
+put-answer-requires c κs = let k = searched (c .before .before .before .before .before .before .before .before .before .before .before .before .before) in shown _ _ _ _ _ _ _ _ _ (k .0) (k .1)
 
 same-length-3 : tie.Need-same-length-3
 same-length-3 c = search needs
@@ -80,13 +80,16 @@ same-length-6 c = search needs
 same-length-7 : tie.Need-same-length-7
 same-length-7 c = search needs
 
+same-length-8 : tie.Need-same-length-8
+same-length-8 c = search needs
+
 returns-2 : tie.Need-returns-2
 returns-2 c =
-    let b = c .before .before .before .before .before .before .before .before .before .before .before .before .before .before .before .before .before .before .before .before .before .before .before .before .before .before .before .before .before .before in
+    let b = c .before .before .before .before .before .before .before .before .before .before .before .before .before .before .before .before .before .before .before .before .before .before .before .before .before .before .before .before .before .before .before .before .before .before .before in
     let a = b .args in
-    let y = c .before .before .before .before .before .before .before .before .before .before .before .before .before .before .before .before .before .before .before .before .before .read-query in
-    let z = c .before .before .before .before .before .before .before .before .before .before .before .before .before .before .before .before .before .before .if1 .left in
-    let k = searched (c .before .before .before .before .before .before .before .before .before .before .before .before .before) in
+    let y = c .before .before .before .before .before .before .before .before .before .before .before .before .before .before .before .before .before .before .before .before .before .before .before .before .before .read-query in
+    let z = c .before .before .before .before .before .before .before .before .before .before .before .before .before .before .before .before .before .before .before .before .before .before .if1 .left in
+    let k = searched (c .before .before .before .before .before .before .before .before .before .before .before .before .before .before .before .before) in
     let v = c .before .before .put-answer .ensures in
     let t =
     answer-as _ _ _ _ _ _ _ _ _ (k .0) (k .1) (a .line .now)
@@ -117,4 +120,5 @@ answer-with-spec =
     same-length-5
     same-length-6
     same-length-7
+    same-length-8
     returns-2)

@@ -18,9 +18,9 @@ enum-known-answer c = search needs
 
 put-found-requires : tie.Need-put-found-requires
 put-found-requires c κs =
-    let b = c .before .before .before .before .before .before .before .before in
+    let b = c .before .before .before .before .before .before .before .before .before in
     let a = b .args in
-    subst (λ (n : ℕ). Shown (asColumns (a .ids .now) (a .shared .now) (a .sizes .now)) n) (ap rowsIn (c .before .before .answer .given .1)) (b .pre)
+    subst (λ (n : ℕ). Shown (asColumns (a .ids .now) (a .shared .now) (a .sizes .now) (a .least .now)) n) (ap rowsIn (c .before .before .answer .given .1)) (b .pre)
 
 enum-known-answer-2 : tie.Need-enum-known-answer-2
 enum-known-answer-2 c = search needs
@@ -33,10 +33,10 @@ same-length c = search needs
 
 returns : tie.Need-returns
 returns c =
-    let a = c .before .before .before .before .before .before .before .before .before .before .before .args in
+    let a = c .before .before .before .before .before .before .before .before .before .before .before .before .args in
     let g = c .before .before .before .before .before .answer .given in
     let e = c .before .before .put-found .ensures in
-    let t = text-found (a .answer) _ _ _ _ (asColumns (a .ids .now) (a .shared .now) (a .sizes .now)) (g .1) in
+    let t = text-found (a .answer) _ _ _ _ (asColumns (a .ids .now) (a .shared .now) (a .sizes .now) (a .least .now)) (g .1) in
     (e .0 ∙ ap (λ (s : List ℕ). fittingOf s (length (a .out .now))) t, e .1 ∙ ap (λ (s : List ℕ). fittedOf s (a .out .now)) t)
 
 same-length-2 : tie.Need-same-length-2
@@ -44,10 +44,10 @@ same-length-2 c = search needs
 
 returns-2 : tie.Need-returns-2
 returns-2 c =
-    let a = c .before .before .before .before .before .before .before .before .before .before .before .args in
+    let a = c .before .before .before .before .before .before .before .before .before .before .before .before .args in
     let g = c .before .before .before .before .before .answer2 .given in
     let e = c .before .before .write-refusal .ensures in
-    let t = text-refused (a .answer) _ _ (asColumns (a .ids .now) (a .shared .now) (a .sizes .now)) (g .1) in (
+    let t = text-refused (a .answer) _ _ (asColumns (a .ids .now) (a .shared .now) (a .sizes .now) (a .least .now)) (g .1) in (
       e .0 ∙ written-plain refusalFrame _ (length (a .out .now)) ∙ ap (λ (s : List ℕ). fittingOf s (length (a .out .now))) t,
       e .1 ∙ out-plain refusalFrame _ (a .out .now) ∙ ap (λ (s : List ℕ). fittedOf s (a .out .now)) t,
     )

@@ -23,9 +23,9 @@ add-total c = search needs
 
 returns : tie.Need-returns
 returns c =
-    let a = c .before .before .before .before .before .args in
-    let text = foundText (a .rows) (a .touches) (a .p) (a .q) (asColumns (a .ids .now) (a .shared .now) (a .sizes .now)) in
-    let n = length-found (a .rows) (a .touches) (a .p) (a .q) (asColumns (a .ids .now) (a .shared .now) (a .sizes .now)) in
+    let a = c .before .before .before .before .before .before .args in
+    let text = foundText (a .rows) (a .touches) (a .p) (a .q) (asColumns (a .ids .now) (a .shared .now) (a .sizes .now) (a .least .now)) in
+    let n = length-found (a .rows) (a .touches) (a .p) (a .q) (asColumns (a .ids .now) (a .shared .now) (a .sizes .now) (a .least .now)) in
     let h = c .if1 .taken in
     (fitting-none text (length (a .out .now)) (omega arith), fitted-none text (a .out .now) (omega arith))
 
@@ -34,13 +34,13 @@ slice-relend-prefix-put-rows c = search needs
 
 slice-aggregate-put-rows : tie.Need-slice-aggregate-put-rows
 slice-aggregate-put-rows c =
-    let a = c .before .before .before .before .before .before .args in
+    let a = c .before .before .before .before .before .before .before .args in
     let h = c .before .if1 .left in
     sym (length-take-le (rowLineLength * a .rows) (a .out .now) (omega arith))
 
 put-rows-requires : tie.Need-put-rows-requires
 put-rows-requires c κs =
-    let b = c .before .before .before .before .before .before in
+    let b = c .before .before .before .before .before .before .before in
     let a = b .args in
     let h = c .before .if1 .left in
     (b .pre, length-take-le (rowLineLength * a .rows) (a .out .now) (omega arith))
@@ -65,12 +65,12 @@ same-length c = search needs
 
 returns-2 : tie.Need-returns-2
 returns-2 c =
-    let b = c .before .before .before .before .before .before .before .before .before .before .before .before .before in
+    let b = c .before .before .before .before .before .before .before .before .before .before .before .before .before .before in
     let a = b .args in
     let h = c .before .before .before .before .before .before .before .before .if1 .left in
     let y = c .before .before .before .before .before .before .put-rows in
-    let r = y .last .1 .1 .1 .1 .0 in
-    let e = length-rows (asColumns (a .ids .now) (a .shared .now) (a .sizes .now)) (a .rows) in
+    let r = y .last .1 .1 .1 .1 .1 .0 in
+    let e = length-rows (asColumns (a .ids .now) (a .shared .now) (a .sizes .now) (a .least .now)) (a .rows) in
     let l : length r ≡ rowLineLength * a .rows = ap length (y .ensures) ∙ e in
     let k : (rowLineLength * a .rows + endLineLength) - rowLineLength * a .rows ≡ endLineLength = omega arith in
     let u = r ++ drop (rowLineLength * a .rows) (a .out .now) in
@@ -79,11 +79,11 @@ returns-2 c =
     let x = length-drop (rowLineLength * a .rows) u in
     let t = length-take-le ((rowLineLength * a .rows + endLineLength) - rowLineLength * a .rows) (drop (rowLineLength * a .rows) u) (omega arith) in
     let z = c .before .before .write-end in (
-      fitting-all (foundText (a .rows) (a .touches) (a .p) (a .q) (asColumns (a .ids .now) (a .shared .now) (a .sizes .now))) (length (a .out .now)) (rowLineLength * a .rows + endLineLength) (length-found (a .rows) (a .touches) (a .p) (a .q) (asColumns (a .ids .now) (a .shared .now) (a .sizes .now))) (omega arith),
+      fitting-all (foundText (a .rows) (a .touches) (a .p) (a .q) (asColumns (a .ids .now) (a .shared .now) (a .sizes .now) (a .least .now))) (length (a .out .now)) (rowLineLength * a .rows + endLineLength) (length-found (a .rows) (a .touches) (a .p) (a .q) (asColumns (a .ids .now) (a .shared .now) (a .sizes .now) (a .least .now))) (omega arith),
       put-behind r (a .out .now) (z .last .0) (endLine (a .rows) (a .touches) (a .p) (a .q)) (rowLineLength * a .rows) ((rowLineLength * a .rows + endLineLength) - rowLineLength * a .rows) endLineLength l k
           (z .ensures .1 ∙ end-exact (a .rows) (a .touches) (a .p) (a .q) (take ((rowLineLength * a .rows + endLineLength) - rowLineLength * a .rows) (drop (rowLineLength * a .rows) u)) (t ∙ k))
           ∙ ap (λ (s : List ℕ). (s ++ endLine (a .rows) (a .touches) (a .p) (a .q)) ++ drop (rowLineLength * a .rows + endLineLength) (a .out .now)) (y .ensures)
-          ∙ fitted-found (a .rows) (a .touches) (a .p) (a .q) (asColumns (a .ids .now) (a .shared .now) (a .sizes .now)) (a .out .now) (omega arith),
+          ∙ fitted-found (a .rows) (a .touches) (a .p) (a .q) (asColumns (a .ids .now) (a .shared .now) (a .sizes .now) (a .least .now)) (a .out .now) (omega arith),
     )
 
 pub put-found-spec : {M : Type 1} → statement M

@@ -33,6 +33,9 @@ cast-write-row-2 c = search needs
 cast-write-row-3 : tie.Need-cast-write-row-3
 cast-write-row-3 c = search needs
 
+cast-write-row-4 : tie.Need-cast-write-row-4
+cast-write-row-4 c = search needs
+
 write-row-requires : tie.Need-write-row-requires
 write-row-requires c κs = search needs
 
@@ -43,7 +46,7 @@ returns : tie.Need-returns
 returns c =
     let b = c .before .before .before .before .before in
     let a = b .args in
-    put-at rowLineLength (a .k) (a .out .now) (c .before .before .write-row .last .0) (rowLine (a .id) (a .shared) (a .size)) (outOf rowFrame (a .id ∷ a .shared ∷ a .size ∷ []) []) (b .pre .4) (c .before .before .write-row .ensures .1) (row-exact (a .id) (a .shared) (a .size))
+    put-at rowLineLength (a .k) (a .out .now) (c .before .before .write-row .last .0) (rowLine (a .id) (a .shared) (a .size) (a .least)) (outOf rowFrame (a .id ∷ a .shared ∷ a .size ∷ a .least ∷ []) []) (b .pre .5) (c .before .before .write-row .ensures .1) (row-exact (a .id) (a .shared) (a .size) (a .least))
 
 pub put-row-spec : {M : Type 1} → statement M
 put-row-spec =
@@ -57,6 +60,7 @@ put-row-spec =
     cast-write-row
     cast-write-row-2
     cast-write-row-3
+    cast-write-row-4
     write-row-requires
     same-length
     returns)

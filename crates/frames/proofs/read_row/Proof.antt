@@ -32,8 +32,14 @@ element-copy-out-size c = search needs
 cast-size : tie.Need-cast-size
 cast-size c = record { fits = field-below _ _ _ _ (c .before .before .before .before .read .ensures) 2 }
 
+element-copy-out-least : tie.Need-element-copy-out-least
+element-copy-out-least c = search needs
+
+cast-least : tie.Need-cast-least
+cast-least c = record { fits = field-below _ _ _ _ (c .before .before .before .before .before .read .ensures) 3 }
+
 returns-2 : tie.Need-returns-2
-returns-2 c = plain-read rowFrame _ _ _ (c .before .before .before .before .read .ensures) refl (c .before .before .before .if1 .left)
+returns-2 c = plain-read rowFrame _ _ _ (c .before .before .before .before .before .read .ensures) refl (c .before .before .before .before .if1 .left)
 
 pub read-row-spec : {M : Type 1} → statement M
 read-row-spec =
@@ -47,4 +53,6 @@ read-row-spec =
     cast-shared
     element-copy-out-size
     cast-size
+    element-copy-out-least
+    cast-least
     returns-2)

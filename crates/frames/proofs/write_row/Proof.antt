@@ -1,4 +1,4 @@
--- `write_row` meets its contract: a width of 0 adds nothing to the line.
+-- `write_row` meets its contract.
 -- Assumes nothing.
 use borrow.Author.Needs.{needs}
 use Rattle.hex.specs.Numbers.{bytesFor}

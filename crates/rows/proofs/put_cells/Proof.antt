@@ -11,10 +11,10 @@ use Rattle.rows.proofs.put_cells.Statement.{statement}
 use Rattle.rows.proofs.put_cells.Tie as tie
 
 abbrev Inv-loop : tie.InvT-loop
-Inv-loop ids shared sizes n cells₀ i₀ cells i = (i ≤ n) × (length cells ≡ length cells₀) × (cells ≡ cellsOver (rowAcross (asColumns ids shared sizes)) i cells₀)
+Inv-loop ids shared sizes least n cells₀ i₀ cells i = (i ≤ n) × (length cells ≡ length cells₀) × (cells ≡ cellsOver (rowAcross (asColumns ids shared sizes least)) i cells₀)
 
 abbrev μ-loop : tie.MeasureT-loop
-μ-loop ids shared sizes n cells₀ i₀ cells i = n - i
+μ-loop ids shared sizes least n cells₀ i₀ cells i = n - i
 
 loop-holds : tie.Need-loop-holds Inv-loop μ-loop
 loop-holds c = (search needs, search needs, cells-over-nil _ _)
@@ -64,6 +64,21 @@ mul-cells-6 c = search needs
 slice-write-cells-3 : tie.Need-slice-write-cells-3 Inv-loop μ-loop
 slice-write-cells-3 c = simp length-set (omega arith)
 
+mul-cells-7 : tie.Need-mul-cells-7 Inv-loop μ-loop
+mul-cells-7 c = search needs
+
+shared-slice-read-cells-4 : tie.Need-shared-slice-read-cells-4 Inv-loop μ-loop
+shared-slice-read-cells-4 c = search needs
+
+add-cells-3 : tie.Need-add-cells-3 Inv-loop μ-loop
+add-cells-3 c = search needs
+
+mul-cells-8 : tie.Need-mul-cells-8 Inv-loop μ-loop
+mul-cells-8 c = search needs
+
+slice-write-cells-4 : tie.Need-slice-write-cells-4 Inv-loop μ-loop
+slice-write-cells-4 c = simp length-set (omega arith)
+
 add-i : tie.Need-add-i Inv-loop μ-loop
 add-i c = search needs
 
@@ -72,7 +87,7 @@ loop-less c = search needs
 
 loop-again : tie.Need-loop-again Inv-loop μ-loop
 loop-again c =
-    let b = c .before .before .before .before in
+    let b = c .before .before .before .before .before in
     (search needs, search needs, cells-over-step _ (b .loop .i) (b .loop .cells) _ (b .loop .inv .2) (let h : rowCells * b .loop .i + rowCells ≤ length (b .before .args .cells .now) = omega arith in h))
 
 same-length : tie.Need-same-length Inv-loop μ-loop
@@ -103,6 +118,11 @@ put-cells-spec =
     add-cells-2
     mul-cells-6
     slice-write-cells-3
+    mul-cells-7
+    shared-slice-read-cells-4
+    add-cells-3
+    mul-cells-8
+    slice-write-cells-4
     add-i
     loop-less
     loop-again

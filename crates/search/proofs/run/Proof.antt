@@ -27,7 +27,7 @@ use Rattle.search.proofs.run.Tie as tie
 
 -- each place as seen from the next
 abbrev start : tie.After-name-count → tie.Start
-start c = c .before .before .before .before .before .before
+start c = c .before .before .before .before .before .before .before
 
 abbrev named : tie.After-name-ids → tie.After-name-count
 named c = c .before .before
@@ -44,8 +44,8 @@ worked c = c .before .before .before .before .before
 abbrev covered : tie.Else1 → tie.After-all-sizes
 covered c = c .before .before
 
-abbrev counted : tie.After-smaller2 → tie.Else1
-counted c = c .before .before .before .before .before
+abbrev counted : tie.After-smaller3 → tie.Else1
+counted c = c .before .before .before .before .before .before
 
 -- the function's entry as seen from the later ones
 abbrev entry : tie.After-sorted-features → tie.Start
@@ -103,13 +103,13 @@ prepared c =
       judged = b .pre .1;
       known = b .pre .2;
       exact = b .pre .3;
-      bytes = λ j. (let z = named (listed d) .before .before .before .before .before .shared-slice-known .given j in omega arith);
+      bytes = λ j. (let z = named (listed d) .before .before .before .before .before .before .shared-slice-known .given j in omega arith);
       sorted = features d .front;
       least = c .least-counts .ensures ∙ ap (leastsOf (b .args .words .now) (b .args .measure) (b .args .p) (b .args .q)) (sym (cut d));
     }
 
 name-count-requires : tie.Need-name-count-requires
-name-count-requires c κs = good-three _ (c .before .before .before .before .before .pre .0)
+name-count-requires c κs = good-three _ (c .before .before .before .before .before .before .pre .0)
 
 slice-aggregate-name-ids : tie.Need-slice-aggregate-name-ids
 slice-aggregate-name-ids c = search needs
@@ -193,22 +193,27 @@ smaller-requires c κs = search needs
 smaller-requires-2 : tie.Need-smaller-requires-2
 smaller-requires-2 c κs = search needs
 
+smaller-requires-3 : tie.Need-smaller-requires-3
+smaller-requires-3 c κs = search needs
+
 -- the columns as they are lent
-abbrev lent : tie.After-smaller2 → Columns
-lent c = let a = first (covered (counted c)) .args in asColumns (a .ids .now) (a .shared .now) (a .sizes .now)
+abbrev lent : tie.After-smaller3 → Columns
+lent c = let a = first (covered (counted c)) .args in asColumns (a .ids .now) (a .shared .now) (a .sizes .now) (a .least .now)
 
 -- how many answers there are, and how much room
-pub record Counted (c : tie.After-smaller2) : Type 0 where
-  pub rows : c .before .before .count-answers .result ≡ length (placesIn (answers (counted c)) (nameCount (first (covered (counted c)) .args .words .now)))
-  pub room : c .smaller2 .result ≡ roomOf (lent c)
+pub record Counted (c : tie.After-smaller3) : Type 0 where
+  pub rows : c .before .before .before .count-answers .result ≡ length (placesIn (answers (counted c)) (nameCount (first (covered (counted c)) .args .words .now)))
+  pub room : c .smaller3 .result ≡ roomOf (lent c)
 
-counts : (c : tie.After-smaller2) → Counted c
+counts : (c : tie.After-smaller3) → Counted c
 counts c =
     let d = counted c in
     let v = covered d in
     record {
-      rows = c .before .before .count-answers .ensures ∙ ap (λ (n : ℕ). length (placesIn (answers d) n)) (named (listed (sorted (worked v))) .name-count .ensures .0);
-      room = c .smaller2 .ensures ∙ ap (min (length (first v .args .ids .now))) (c .before .smaller .ensures);
+      rows = c .before .before .before .count-answers .ensures ∙ ap (λ (n : ℕ). length (placesIn (answers d) n)) (named (listed (sorted (worked v))) .name-count .ensures .0);
+      room =
+          c .smaller3 .ensures
+          ∙ ap (min (length (first v .args .ids .now))) (c .before .smaller2 .ensures ∙ ap (min (length (first v .args .shared .now))) (c .before .before .smaller .ensures));
     }
 
 returns-2 : tie.Need-returns-2
@@ -224,25 +229,29 @@ returns-2 c =
 slice-aggregate-write-rows : tie.Need-slice-aggregate-write-rows
 slice-aggregate-write-rows c = search needs
 
+slice-aggregate-write-rows-2 : tie.Need-slice-aggregate-write-rows-2
+slice-aggregate-write-rows-2 c = search needs
+
 write-rows-requires : tie.Need-write-rows-requires
 write-rows-requires c κs =
-    let s = c .before .before .before .before .before in
+    let s = c .before .before .before .before .before .before .before in
     let d = counted s in
     let n = counts s in
     let e = n .rows in
     let r = n .room in
-    let h = c .before .before .before .before .if2 .left in
-    (first (covered d) .pre .0, wide d, e, omega arith, omega arith, omega arith)
+    let h = c .before .before .before .before .before .before .if2 .left in
+    let long = ran-reachable (prepared (worked (covered d))) .long in
+    (first (covered d) .pre .0, wide d, long, e, omega arith, omega arith, omega arith, omega arith)
 
 -- the place before the room was compared with the rows
 abbrev compared : tie.After-lowest → tie.Else2
-compared c = c .before .before .before .before .before .before .before .before .before .before .before .before
+compared c = c .before .before .before .before .before .before .before .before .before .before .before .before .before .before .before .before
 
 lowest-requires : tie.Need-lowest-requires
 lowest-requires c κs = search needs
 
-cast-t50 : tie.Need-cast-t50
-cast-t50 c =
+cast-t57 : tie.Need-cast-t57
+cast-t57 c =
     let s = compared c .before in
     let b = first (covered (counted s)) in
     let z = counts s .rows in
@@ -259,6 +268,9 @@ same-length-2 c = search needs
 same-length-3 : tie.Need-same-length-3
 same-length-3 c = search needs
 
+same-length-4 : tie.Need-same-length-4
+same-length-4 c = search needs
+
 returns-3 : tie.Need-returns-3
 returns-3 c =
     let s = compared c .before in
@@ -268,9 +280,9 @@ returns-3 c =
     let e = n .rows in
     let r = n .room in
     let h = compared c .if2 .left in
-    let wr = c .before .before .before .before .before .before .before .write-rows .ensures in
-    let rows = s .before .before .count-answers .result in
-    let f = ran-found (prepared (worked v)) (v .all-sizes .ensures) (d .if1 .left) (lent s) _ rows e (omega arith) (λ t. asColumns (wr .0 t) (wr .1 .0 t) (wr .1 .1 t)) in
+    let wr = c .before .before .before .before .before .before .before .before .before .write-rows .ensures in
+    let rows = s .before .before .before .count-answers .result in
+    let f = ran-found (prepared (worked v)) (v .all-sizes .ensures) (d .if1 .left) (lent s) _ rows e (omega arith) (λ t. asColumns (wr .0 t) (wr .1 .0 t) (wr .1 .1 .0 t) (wr .1 .1 .1 t)) in
     record {
       answer = ap (λ (t : Threshold). Found rows (v .all-sizes .result .touches) (t .p) (t .q)) (c .lowest .ensures) ∙ f .answer;
       columns = f .columns;
@@ -299,12 +311,15 @@ run-spec =
     count-answers-requires
     smaller-requires
     smaller-requires-2
+    smaller-requires-3
     returns-2
     slice-aggregate-write-rows
+    slice-aggregate-write-rows-2
     write-rows-requires
     lowest-requires
-    cast-t50
+    cast-t57
     same-length
     same-length-2
     same-length-3
+    same-length-4
     returns-3)

@@ -20,11 +20,14 @@ same-length-2 c = search needs
 same-length-3 : tie.Need-same-length-3
 same-length-3 c = search needs
 
+same-length-4 : tie.Need-same-length-4
+same-length-4 c = search needs
+
 returns : tie.Need-returns
 returns c =
-    let s = c .before .before .before .before .before .before .before .search .ensures in
+    let s = c .before .before .before .before .before .before .before .before .before .search .ensures in
     (c .flat .ensures ∙ ap searchAnswer (s .answer), s .columns)
 
 pub rushgirdle-search-spec : {M : Type 1} → statement M
 rushgirdle-search-spec =
-    tie.close (tie.spec search-requires flat-requires same-length same-length-2 same-length-3 returns)
+    tie.close (tie.spec search-requires flat-requires same-length same-length-2 same-length-3 same-length-4 returns)
