@@ -40,7 +40,7 @@ const char *simstring_found(void *, size_t);
 void simstring_drop(void *);
 #endif
 
-enum { NAMES = 256, LONGEST = 64, QUERIES = 32, WORDS = RUSHGIRDLE_MOST_WORDS, POSTINGS = 16896, COPIES = 16 };
+enum { NAMES = 256, LONGEST = 200, QUERIES = 32, WORDS = RUSHGIRDLE_MOST_WORDS, POSTINGS = NAMES * (LONGEST + 2), COPIES = 16 };
 
 /* A log: as many lines as one may have, of ten weeks. */
 enum { LINES = RUSHGIRDLE_MOST_LINES, WEEKS = 10 };
@@ -753,11 +753,11 @@ static void changed(size_t names, size_t length, bool equal, unsigned rounds)
     measure_changes(s, rounds);
 }
 
-static void worst(uint16_t p, uint16_t q, unsigned rounds)
+static void worst(size_t length, uint16_t p, uint16_t q, unsigned rounds)
 {
-    struct scene *s = begin(1, p, q, "256 equal names of 64 bytes, Dice %u/%u", p, q);
+    struct scene *s = begin(1, p, q, "256 equal names of %zu bytes, Dice %u/%u", length, p, q);
     state = 1;
-    long_name(s->name[0], LONGEST);
+    long_name(s->name[0], length);
     for (s->names = 1; s->names < NAMES; s->names++)
         strcpy(s->name[s->names], s->name[0]);
     ask(s, s->name[0]);
@@ -792,6 +792,7 @@ static void on_threshold(const char *name, const char *query, uint16_t p, uint16
 
 int main(int count, char **given)
 {
+    static const size_t lengths[] = {8, 16, 64, LONGEST};
     if (count != 2) {
         fputs("usage: measure DIRECTORY\n", stderr);
         return 2;
@@ -801,13 +802,15 @@ int main(int count, char **given)
     head();
     for (uint8_t by = 1; by <= 4; by++)
         pools(by, 7, 10, rounds);
-    worst(1, 1, rounds);
-    worst(1, 1000, rounds);
+    for (size_t length = 64; length <= LONGEST; length += LONGEST - 64) {
+        worst(length, 1, 1, rounds);
+        worst(length, 1, 1000, rounds);
+    }
     puts("\nAs names and lengths grow:\n");
     head();
     for (size_t names = 16; names <= 256; names *= 4)
-        for (size_t length = 8; length <= 64; length = length == 16 ? 64 : 2 * length)
-            grown(names, length, rounds);
+        for (size_t at = 0; at < sizeof lengths / sizeof *lengths; at++)
+            grown(names, lengths[at], rounds);
     puts("\nA log of mistyped names of 256 pools, imported:\n");
     puts("| log | touches | lines that belong | pairs | a line of an import, µs | search_good, µs | import / search_good |"
          " SimString, µs | import / SimString |");
@@ -821,6 +824,7 @@ int main(int count, char **given)
     changed(16, 8, false, rounds);
     changed(256, 64, false, rounds);
     changed(256, 64, true, rounds);
+    changed(256, LONGEST, false, rounds);
     puts("\nThe goals, by the largest ratio of the rows of 256 pool names, and for the import of the rows of a log:\n");
     puts("| ratio | goal | largest | at | |\n|---|---|---|---|---|");
     for (size_t g = 0; g < sizeof goals / sizeof *goals; g++)

@@ -49,7 +49,7 @@ extern "C" void *simstring_make(const char *path, const char *const *names, size
         return NULL;
     for (size_t at = 0; at < count; at++)
         into.insert(names[at]);
-    for (size_t length = 1; length <= 64; length++)
+    for (size_t length = 1; length <= 200; length++)
         into.insert(std::string(length, filler));
     if (!into.close() || !fill_below(path))
         return NULL;

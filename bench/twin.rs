@@ -7,8 +7,8 @@
 use std::slice::{from_raw_parts, from_raw_parts_mut};
 
 const NAMES: usize = 256;
-const FEATURES: usize = 66;
-const POSTINGS: usize = 16_896;
+const FEATURES: usize = 202;
+const POSTINGS: usize = NAMES * FEATURES;
 const NOTHING: u32 = u32::MAX;
 
 #[repr(C)]
@@ -37,7 +37,7 @@ const fn refused(number: u8, touches: u32) -> SearchAnswer {
 fn judge(name: &[u8]) -> u8 {
     match name.len() {
         0 => 1,
-        65.. => 2,
+        201.. => 2,
         _ if name.contains(&0) => 3,
         _ if name.iter().any(|byte| *byte < 32 || *byte == 127) => 12,
         _ => 0,
@@ -118,7 +118,7 @@ fn key(size: u32, feature: u32) -> u64 {
 
 fn good(words: &[u32]) -> bool {
     let Some(index) = cut(words) else { return false };
-    let fits = |name: &u32| *name < 1 << 24 && (3..=66).contains(&(*name & 255));
+    let fits = |name: &u32| *name < 1 << 24 && (3..=FEATURES as u32).contains(&(*name & 255));
     if !index.names.iter().all(fits) || !index.names.windows(2).all(|pair| pair[0] >> 8 < pair[1] >> 8) {
         return false;
     }

@@ -4,7 +4,7 @@
 NUMBERS = {
     0: ('answered', 'nothing is to be done'),
     1: ('name or query is empty', 'type a name'),
-    2: ('name or query is longer than 64 bytes', 'shorten it; a letter with an accent takes two bytes or more'),
+    2: ('name or query is longer than 200 bytes', 'shorten it; a letter with an accent takes two bytes or more'),
     3: ('name or query holds a 0 byte', 'type it again by hand'),
     4: ('the measure is not 1 to 4', 'choose dice, jaccard, cosine or overlap'),
     5: ('the threshold is not p/q with 1 ≤ p ≤ q ≤ 1000', 'give a fraction such as 3/5, or a decimal such as 0.6'),

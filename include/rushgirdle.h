@@ -36,7 +36,7 @@ extern "C" {
 enum rushgirdle_number {
     RUSHGIRDLE_ANSWERED = 0,
     RUSHGIRDLE_EMPTY = 1,      /* the name or query is empty */
-    RUSHGIRDLE_LONG = 2,       /* it is longer than 64 bytes; frame writer: longer than 255 */
+    RUSHGIRDLE_LONG = 2,       /* it is longer than 200 bytes; frame writer: longer than 255 */
     RUSHGIRDLE_ZERO_BYTE = 3,  /* it holds a 0 byte */
     RUSHGIRDLE_MEASURE = 4,    /* the measure is not 1 to 4 */
     RUSHGIRDLE_THRESHOLD = 5,  /* not 1 <= p <= q <= 1000 */
@@ -68,7 +68,7 @@ enum rushgirdle_case {
 };
 
 #define RUSHGIRDLE_MOST_NAMES 256    /* so many rows are enough for every search */
-#define RUSHGIRDLE_MOST_WORDS 84739  /* so many words are enough for every register and every add: 3 + 256 + 4 * 16896 + 16896 */
+#define RUSHGIRDLE_MOST_WORDS 258819 /* so many words are enough for every register and every add: 3 + 256 + 4 * 51712 + 51712 */
 #define RUSHGIRDLE_LONGEST_NAME 255  /* so many bytes are enough for every name or query that is read from a line */
 #define RUSHGIRDLE_LONGEST_LINE 533  /* so many bytes are enough for every line that is written, its line feed included */
 #define RUSHGIRDLE_MOST_LINES 1024   /* so many places are enough for the outcomes of every log, and for its pairs */
@@ -76,12 +76,12 @@ enum rushgirdle_case {
 
 /* The bytes of stack that a call takes below its caller's own, the return address among them. A loader that looks for memcpy and memset at their
  * first call takes its own besides. */
-#define RUSHGIRDLE_STACK_BUILD 280000  /* rushgirdle_build */
-#define RUSHGIRDLE_STACK_UPKEEP 10000  /* rushgirdle_add, rushgirdle_withdraw */
+#define RUSHGIRDLE_STACK_BUILD 840000  /* rushgirdle_build */
+#define RUSHGIRDLE_STACK_UPKEEP 17000  /* rushgirdle_add, rushgirdle_withdraw */
 #define RUSHGIRDLE_STACK_INDEX 6000    /* rushgirdle_good, rushgirdle_list */
-#define RUSHGIRDLE_STACK_SEARCH 12000  /* rushgirdle_search */
-#define RUSHGIRDLE_STACK_ROWS 18000    /* rushgirdle_search_rows */
-#define RUSHGIRDLE_STACK_IMPORT 42000  /* rushgirdle_import */
+#define RUSHGIRDLE_STACK_SEARCH 17000  /* rushgirdle_search */
+#define RUSHGIRDLE_STACK_ROWS 25000    /* rushgirdle_search_rows */
+#define RUSHGIRDLE_STACK_IMPORT 47000  /* rushgirdle_import */
 #define RUSHGIRDLE_STACK_FRAMES 256    /* each function that reads or writes a frame */
 
 /* ---- the index */

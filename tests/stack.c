@@ -60,10 +60,10 @@ static size_t need(void (*call)(void), any *function)
     return most;
 }
 
-/* ---- the inputs: 256 names of 64 bytes, logs of these names, and what is largest of a line */
+/* ---- the inputs: 256 names of 200 bytes, logs of these names, and what is largest of a line */
 
-#define NAME 64
-#define LINE 137 /* a 4E line of such a name; a 4C line has 4 bytes more */
+#define NAME 200
+#define LINE (9 + 2 * NAME) /* a 4E line of such a name; a 4C line has 4 bytes more */
 static char lines[RUSHGIRDLE_MOST_NAMES * LINE + 1], logged[RUSHGIRDLE_MOST_LINES * (LINE + 4) + 1];
 static size_t lines_length, logged_length;
 static uint8_t query[NAME];
@@ -102,7 +102,7 @@ static void register_of(int equal)
     for (unsigned i = 0; i < RUSHGIRDLE_MOST_NAMES; i++) {
         lines_length += (size_t)sprintf(lines + lines_length, "4E%04X%02X", i, NAME);
         for (unsigned k = 0; k < NAME; k++) {
-            unsigned byte = equal ? 'A' : k % 2 == 0 ? 128 + i % 16 + 16 * (k / 2 % 8) : 128 + i / 16 + 16 * (k / 16);
+            unsigned byte = equal ? 'A' : k % 2 == 0 ? 128 + i % 16 + 16 * (k / 2 % 8) : 128 + i / 16 + 16 * (k / 16 % 8);
             if (i == 0)
                 query[k] = (uint8_t)byte;
             lines_length += (size_t)sprintf(lines + lines_length, "%02X", byte);
@@ -151,7 +151,7 @@ static void call_read_refusal(void) { CALLEE(rushgirdle_read_refusal)(line, line
 static void call_read_log(void) { CALLEE(rushgirdle_read_log)(line, line_length, name, sizeof name); }
 static void call_write_name(void) { CALLEE(rushgirdle_write_name)(line, sizeof line, 65535, name, sizeof name); }
 static void call_write_query(void) { CALLEE(rushgirdle_write_query)(line, sizeof line, 4, 610, 987, UINT32_MAX, name, sizeof name); }
-static void call_write_row(void) { CALLEE(rushgirdle_write_row)(line, sizeof line, 65535, 66, 66, 66); }
+static void call_write_row(void) { CALLEE(rushgirdle_write_row)(line, sizeof line, 65535, 202, 202, 202); }
 static void call_write_end(void) { CALLEE(rushgirdle_write_end)(line, sizeof line, 256, UINT32_MAX, 610, 987); }
 static void call_write_refusal(void) { CALLEE(rushgirdle_write_refusal)(line, sizeof line, 7, UINT32_MAX); }
 static void call_write_log(void) { CALLEE(rushgirdle_write_log)(line, sizeof line, 65535, 65535, name, sizeof name); }

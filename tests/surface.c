@@ -27,7 +27,11 @@ static void expect(int held, const char *what, int line)
 #define KEPT 2779096485u /* A5A5A5A5, what stands in a word that is lent */
 #define ROOM 64
 
-static uint32_t words[90000];
+#define WORDS 260000 /* more than RUSHGIRDLE_MOST_WORDS */
+#define LONGEST 200 /* bytes of a name */
+#define POSTINGS 51712 /* of 256 names that long: 256 * 202 */
+
+static uint32_t words[WORDS];
 
 static void fill_words(uint32_t *w, size_t n)
 {
@@ -51,20 +55,24 @@ static int all_bytes(const uint8_t *b, size_t from, size_t to, uint8_t value)
     return 1;
 }
 
-/* 256 lines of names of 64 bytes, which have the most postings; how many bytes they are */
-static char most[256 * 137 + 1];
+/* 256 lines of names of LONGEST bytes, which have the most postings; how many bytes they are */
+#define LINE (9 + 2 * LONGEST)
+static char most[256 * LINE + 1];
 
 static size_t most_lines(void)
 {
     int at = 0;
     for (unsigned i = 0; i < 256; i++) {
-        at += sprintf(most + at, "4E%04X40", i);
-        for (unsigned k = 0; k < 64; k++)
-            at += sprintf(most + at, "%02X", k % 2 == 0 ? 128 + i % 16 + 16 * (k / 2 % 8) : 128 + i / 16 + 16 * (k / 16));
+        at += sprintf(most + at, "4E%04X%02X", i, LONGEST);
+        for (unsigned k = 0; k < LONGEST; k++)
+            at += sprintf(most + at, "%02X", k % 2 == 0 ? 128 + i % 16 + 16 * (k / 2 % 8) : 128 + i / 16 + 16 * (k / 16 % 8));
         at += sprintf(most + at, "\n");
     }
     return (size_t)at;
 }
+
+/* a name of one byte too many; filled by main */
+static char too_long[LONGEST + 2];
 
 static rushgirdle_build_answer build(const char *text, size_t room)
 {
@@ -139,16 +147,19 @@ static void test_build(void)
     EXPECT(b.number == 9 && b.line == 3);
     EXPECT(all_words(words, 0, 30, BLANK));
 
-    /* 64 bytes pass, 65 give 2 */
-    char long_line[2 * 65 + 16];
-    for (unsigned n = 64; n <= 65; n++) {
+    /* 64, 65 and 200 bytes pass, 201 give 2 */
+    static const unsigned bytes_of[] = {64, 65, LONGEST, LONGEST + 1};
+    char long_line[2 * (LONGEST + 1) + 16];
+    for (unsigned k = 0; k < 4; k++) {
+        unsigned n = bytes_of[k];
         int at = sprintf(long_line, "4E0001%02X", n);
         for (unsigned i = 0; i < n; i++)
             at += sprintf(long_line + at, "41");
         sprintf(long_line + at, "\n");
-        fill_words(words, 500);
-        b = rushgirdle_build((const uint8_t *)long_line, strlen(long_line), words, 500);
-        EXPECT(b.number == (n == 64 ? 0 : 2) && b.line == (n == 64 ? 0u : 1u));
+        fill_words(words, 1100);
+        b = rushgirdle_build((const uint8_t *)long_line, strlen(long_line), words, 1100);
+        EXPECT(b.number == (n <= LONGEST ? 0 : 2) && b.line == (n <= LONGEST ? 0u : 1u));
+        EXPECT(n > LONGEST || (words[2] == n + 2 && rushgirdle_good(words, 1100)));
     }
 
     /* 256 names pass, a 257th gives 10; the largest id is 65535 */
@@ -164,11 +175,11 @@ static void test_build(void)
     EXPECT(b.number == 10 && b.line == 257);
     EXPECT(all_words(words, 0, RUSHGIRDLE_MOST_WORDS, BLANK));
 
-    /* 256 names of 64 bytes have the most postings; the index takes 3+N+4D+P words, and a word less gives 8 */
+    /* 256 names of 200 bytes have the most postings; the index takes 3+N+4D+P words, and a word less gives 8 */
     size_t length = most_lines();
     b = rushgirdle_build((const uint8_t *)most, length, words, RUSHGIRDLE_MOST_WORDS);
-    EXPECT(b.number == 0 && words[0] == 256 && words[2] == 16896 && rushgirdle_good(words, RUSHGIRDLE_MOST_WORDS));
-    size_t total = 3 + 256 + 4 * (size_t)words[1] + 16896;
+    EXPECT(b.number == 0 && words[0] == 256 && words[2] == POSTINGS && rushgirdle_good(words, RUSHGIRDLE_MOST_WORDS));
+    size_t total = 3 + 256 + 4 * (size_t)words[1] + POSTINGS;
     EXPECT(rushgirdle_build((const uint8_t *)most, length, words, total).number == 0);
     EXPECT(rushgirdle_build((const uint8_t *)most, length, words, total - 1).number == 8);
 }
@@ -278,21 +289,22 @@ static void test_add(void)
     EXPECT(add(ROOM, 6, "A") == 0 && stand(three, 27, ROOM, BLANK));
 
     /* the refusals in their order, each before those after it: the id is live, and there is no room */
-    static const char long_name[] = "AAAAAAAAAAAAAAAAAAAAAAAAAAAAAAAAAAAAAAAAAAAAAAAAAAAAAAAAAAAAAAAAA";
+    static char long_name[LONGEST + 1];
+    memset(long_name, 'A', sizeof long_name);
     lend(both, 23, 23, 7);
     words[2]++;
     EXPECT(add(23, 5, "") == RUSHGIRDLE_NOT_GOOD && words[2] == 7);
     words[2]--;
     EXPECT(stand(both, 23, 23, 7));
     EXPECT(add_refused(23, 5, "", 0, RUSHGIRDLE_EMPTY));
-    EXPECT(add_refused(23, 5, long_name, 65, RUSHGIRDLE_LONG));
+    EXPECT(add_refused(23, 5, long_name, LONGEST + 1, RUSHGIRDLE_LONG));
     EXPECT(add_refused(23, 5, "A\0", 2, RUSHGIRDLE_ZERO_BYTE));
     EXPECT(add_refused(23, 5, "\t\0", 2, 3));
     EXPECT(add_refused(23, 5, "A\t", 2, RUSHGIRDLE_CONTROL));
     EXPECT(add_refused(40, 6, "\x7f", 1, 12));
     EXPECT(add_refused(23, 5, "A", 1, RUSHGIRDLE_ORDER));
     EXPECT(add_refused(ROOM, 9, "B", 1, 9));
-    EXPECT(add_refused(22 + 4, 6, long_name, 64, 8));
+    EXPECT(add_refused(22 + 4, 6, long_name, LONGEST, 8));
 
     /* the least id and the greatest, before and after the others */
     lend(both, 23, 31, 7);
@@ -301,12 +313,12 @@ static void test_add(void)
     EXPECT(add(31, 0, "A") == 9 && add(31, 65535, "A") == 9 && add(31, 1, "A") == 8);
     EXPECT(rushgirdle_withdraw(words, 31, 0) == 0 && rushgirdle_withdraw(words, 31, 65535) == 0 && stand(both, 23, 31, BLANK));
 
-    /* 64 bytes take 3 + 1 + 4 * 66 + 66 words */
-    b = rushgirdle_build(NULL, 0, words, 334);
-    EXPECT(rushgirdle_add(words, 333, 1, (const uint8_t *)long_name, 64) == 8 && all_words(words, 0, 3, 0) && all_words(words, 3, 334, BLANK));
-    EXPECT(rushgirdle_add(words, 334, 1, (const uint8_t *)long_name, 65) == 2);
-    EXPECT(rushgirdle_add(words, 334, 1, (const uint8_t *)long_name, 64) == 0 && words[0] == 1 && words[1] == 66 && words[2] == 66);
-    EXPECT(words[3] == 256 + 66 && rushgirdle_good(words, 334) && !rushgirdle_good(words, 333));
+    /* 200 bytes take 3 + 1 + 4 * 202 + 202 words */
+    b = rushgirdle_build(NULL, 0, words, 1014);
+    EXPECT(rushgirdle_add(words, 1013, 1, (const uint8_t *)long_name, 200) == 8 && all_words(words, 0, 3, 0) && all_words(words, 3, 1014, BLANK));
+    EXPECT(rushgirdle_add(words, 1014, 1, (const uint8_t *)long_name, 201) == 2);
+    EXPECT(rushgirdle_add(words, 1014, 1, (const uint8_t *)long_name, 200) == 0 && words[0] == 1 && words[1] == 202 && words[2] == 202);
+    EXPECT(words[3] == 256 + 202 && rushgirdle_good(words, 1014) && !rushgirdle_good(words, 1013));
 
     /* a name with a tab that is in the index stays as it is, and no other comes */
     static const uint32_t beside[55] = {
@@ -372,7 +384,7 @@ static void test_withdraw(void)
     EXPECT(rushgirdle_withdraw(words, ROOM, 5) == 6 && all_words(words, 0, ROOM, KEPT));
 }
 
-static uint32_t before[90000];
+static uint32_t before[WORDS];
 
 /* whether as many words as there can be are those of before */
 static int as_before(void) { return memcmp(words, before, sizeof before) == 0; }
@@ -384,7 +396,7 @@ static void test_upkeep_most(void)
     int at = 0;
     for (unsigned i = 0; i < 256; i++)
         at += sprintf(many + at, "4E%04X0141\n", 2 * i);
-    fill_words(words, 90000);
+    fill_words(words, WORDS);
     EXPECT(rushgirdle_build((const uint8_t *)many, (size_t)at, words, RUSHGIRDLE_MOST_WORDS).number == 0);
     memcpy(before, words, sizeof before);
     EXPECT(add(RUSHGIRDLE_MOST_WORDS, 510, "A") == 9 && add(RUSHGIRDLE_MOST_WORDS, 0, "B") == 9 && as_before());
@@ -399,21 +411,21 @@ static void test_upkeep_most(void)
     for (unsigned i = 0; i < 256; i++)
         gone += rushgirdle_withdraw(words, 1039, (uint16_t)(2 * (167 * i % 256))) == 0;
     EXPECT(gone == 256 && all_words(words, 0, 3, 0) && all_words(words, 3, RUSHGIRDLE_MOST_WORDS, BLANK));
-    EXPECT(all_words(words, RUSHGIRDLE_MOST_WORDS, 90000, KEPT));
+    EXPECT(all_words(words, RUSHGIRDLE_MOST_WORDS, WORDS, KEPT));
 
-    /* 256 names of 64 bytes: one and then another goes and comes back, into as many words as the index takes */
+    /* 256 names of 200 bytes: one and then another goes and comes back, into as many words as the index takes */
     size_t length = most_lines();
-    fill_words(words, 90000);
+    fill_words(words, WORDS);
     EXPECT(rushgirdle_build((const uint8_t *)most, length, words, RUSHGIRDLE_MOST_WORDS).number == 0);
     memcpy(before, words, sizeof before);
-    size_t total = 3 + 256 + 4 * (size_t)words[1] + 16896;
+    size_t total = 3 + 256 + 4 * (size_t)words[1] + POSTINGS;
     for (unsigned i = 0; i < 256; i += 51) {
-        uint8_t name[64];
-        EXPECT(rushgirdle_read_name((const uint8_t *)most + 137 * i, 137, name, 64).len == 64);
-        EXPECT(rushgirdle_withdraw(words, RUSHGIRDLE_MOST_WORDS, (uint16_t)i) == 0 && words[0] == 255 && words[2] == 16896 - 66);
-        EXPECT(rushgirdle_add(words, total - 1, (uint16_t)i, name, 64) == 8);
-        EXPECT(rushgirdle_add(words, total, (uint16_t)i, name, 64) == 0 && as_before());
-        EXPECT(rushgirdle_add(words, RUSHGIRDLE_MOST_WORDS, 300, name, 64) == 10 && as_before());
+        uint8_t name[LONGEST];
+        EXPECT(rushgirdle_read_name((const uint8_t *)most + LINE * i, LINE, name, LONGEST).len == LONGEST);
+        EXPECT(rushgirdle_withdraw(words, RUSHGIRDLE_MOST_WORDS, (uint16_t)i) == 0 && words[0] == 255 && words[2] == POSTINGS - 202);
+        EXPECT(rushgirdle_add(words, total - 1, (uint16_t)i, name, LONGEST) == 8);
+        EXPECT(rushgirdle_add(words, total, (uint16_t)i, name, LONGEST) == 0 && as_before());
+        EXPECT(rushgirdle_add(words, RUSHGIRDLE_MOST_WORDS, 300, name, LONGEST) == 10 && as_before());
     }
 }
 
@@ -495,7 +507,7 @@ static void test_search(void)
     /* the refusals in their order, each before those after it */
     a = search("", 0, 0, 0, 0, 0, 0, 0, 0);
     EXPECT(refused(a, 1, 0));
-    a = search("AAAAAAAAAAAAAAAAAAAAAAAAAAAAAAAAAAAAAAAAAAAAAAAAAAAAAAAAAAAAAAAAA", 0, 0, 0, 0, 8, 8, 8, 8);
+    a = search(too_long, 0, 0, 0, 0, 8, 8, 8, 8);
     EXPECT(refused(a, 2, 0));
     fill_columns();
     a = rushgirdle_search((const uint8_t *)"A\0B", 3, 0, 0, 0, 0, lane, INDEX, ids, 8, shared, 8, sizes, 8, least, 8);
@@ -583,7 +595,7 @@ static void test_rows(void)
 
     /* the refusals in their order, each before those after it */
     EXPECT(rows_refused(search_rows("", 0, 0, 0, 0, 0), 1, 0));
-    EXPECT(rows_refused(search_rows("AAAAAAAAAAAAAAAAAAAAAAAAAAAAAAAAAAAAAAAAAAAAAAAAAAAAAAAAAAAAAAAAA", 0, 0, 0, 0, 8), 2, 0));
+    EXPECT(rows_refused(search_rows(too_long, 0, 0, 0, 0, 8), 2, 0));
     fill_rows();
     EXPECT(rows_refused(rushgirdle_search_rows((const uint8_t *)"A\0B", 3, 0, 0, 0, 0, lane, INDEX, rows, 8), 3, 0));
     EXPECT(rows_refused(search_rows("A\tB", 0, 0, 0, 0, 8), 12, 0));
@@ -713,10 +725,10 @@ static void test_import(void)
     EXPECT(each_refused(import(six, 1, 1, 2, 0), 6));
     pools[2]--;
 
-    /* the other numbers of a line: 65 bytes, a 0 byte, a tab */
-    static char odd[200];
-    int at = sprintf(odd, "4C0000000041");
-    for (int k = 0; k < 65; k++)
+    /* the other numbers of a line: 201 bytes, a 0 byte, a tab */
+    static char odd[500];
+    int at = sprintf(odd, "4C00000000C9");
+    for (int k = 0; k < 201; k++)
         at += sprintf(odd + at, "41");
     sprintf(odd + at, "\n4C00000000024100\n4C00000000024109\n");
     a = import(odd, 1, 1, 2, 1000);
@@ -1051,6 +1063,7 @@ static void test_fences(void)
 
 int main(void)
 {
+    memset(too_long, 'A', LONGEST + 1);
     test_build();
     test_good();
     test_list();

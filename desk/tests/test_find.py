@@ -74,7 +74,7 @@ class Find(Case):
             'Decimals are rounded down. The search took 15 touches.\n'), out)
 
     def test_refusals(self):
-        for typed, number in (('', 1), ('A' * 65, 2), ('A' * 256, 2), ('É' * 33, 2), ('A\tB', 12), ('A\x7f', 12)):
+        for typed, number in (('', 1), ('A' * 201, 2), ('A' * 256, 2), ('É' * 101, 2), ('A\tB', 12), ('A\x7f', 12)):
             with self.subTest(typed[:9]):
                 self.refused(2, f'(number {number}): ', 'find', '--register', 'pools.csv', typed)
         for typed in ('2/1', '0', '0/5', '1/1001'):

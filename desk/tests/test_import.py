@@ -45,13 +45,13 @@ class Import(Case):
                          ['2026-02-23,1.00,1', '2026-03-02,3.00,2', '2026-03-09,5.00,1'])
 
     def test_lines_for_a_person(self):
-        out = self.imported('date,reading,name\n2026-03-02,1,SPORTS HALL\n2026-03-02,1,HARBOUR\n2026-03-02,1,\n2026-03-02,1,' + 'A' * 65 + '\n', '--threshold', '1/2')
+        out = self.imported('date,reading,name\n2026-03-02,1,SPORTS HALL\n2026-03-02,1,HARBOUR\n2026-03-02,1,\n2026-03-02,1,' + 'A' * 201 + '\n', '--threshold', '1/2')
         # HARBOUR (9 features) shares 7 with HARBOUR BATHS (15) and with HARBOUR LIDO (14): 14/24 and 14/23
         self.assertEqual(out, '4 lines: 0 belong, 1 unresolved, 1 ambiguous, 2 refused.\n'
                          'log.csv, line 2: unresolved: no registered name is like "SPORTS HALL".\n'
                          'log.csv, line 3: ambiguous: "HARBOUR" is like HARBOUR BATHS (20), HARBOUR LIDO (21).\n'
                          'log.csv, line 4: refused: "": name or query is empty (number 1): type a name.\n'
-                         'log.csv, line 5: refused: "' + 'A' * 65 + '": name or query is longer than 64 bytes (number 2): shorten it; '
+                         'log.csv, line 5: refused: "' + 'A' * 201 + '": name or query is longer than 200 bytes (number 2): shorten it; '
                          'a letter with an accent takes two bytes or more.\nNothing is written: give --sheet FILE or --table FILE.\n')
 
     def test_an_allowance(self):

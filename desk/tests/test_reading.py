@@ -29,7 +29,7 @@ class Registers(Case):
                 ('a blank id', 'id,name\n,LANE\n', 'line 2: the id ""'), ('an id below 0', 'id,name\n-1,LANE\n', 'line 2: the id "-1"'),
                 ('a large id', 'id,name\n65536,LANE\n', 'line 2: the id "65536"'), ('a very long id', 'id,name\n' + '9' * 5000 + ',LANE\n', 'line 2: the id'),
                 ('an id twice', 'id,name\n1,A\n2,B\n1,C\n', 'line 4: the id 1 stands in line 2'),
-                ('a name too long', 'id,name\n2,B\n1,' + 'A' * 65 + '\n', 'line 3: name or query is longer than 64 bytes (number 2)'),
+                ('a name too long', 'id,name\n2,B\n1,' + 'A' * 201 + '\n', 'line 3: name or query is longer than 200 bytes (number 2)'),
                 ('a name too long for a frame', 'id,name\n1,' + 'A' * 256 + '\n', 'line 2: the name has 256 bytes'),
                 ('no name', 'id,name\n1,\n', 'line 2: name or query is empty (number 1)'), ('a tab', 'id,name\n1,A\tB\n', 'line 2: name or query holds a control'),
                 ('a line feed in a name', 'id,name\n3,C\n\n1,"A\nB"\n2,C\n', 'line 4: name or query holds a control character'),

@@ -12,7 +12,7 @@ from ctypes import CDLL, POINTER, Structure, c_char_p, c_size_t, c_uint8, c_uint
 
 DICE = 1
 MOST_NAMES = 256
-MOST_WORDS = 84739
+MOST_WORDS = 258819
 
 
 class BuildAnswer(Structure):

@@ -25,7 +25,7 @@ pub const FAULTS: [Fault; 54] = [
     ("name_on_threshold_lost", |input| searching(input, |words, query, rows| kept(words, query, rows, above))),
     ("least_count_one_lost", |input| searching(input, |words, query, rows| kept(words, query, rows, not_of_one))),
     ("size_66_lost", |input| {
-        searching(input, |words, query, rows| kept(words, query, rows, |_, _, row| row.size < 66))
+        searching(input, |words, query, rows| kept(words, query, rows, |_, _, row| row.size < MOST_SIZE))
     }),
     ("id_65535_lost", |input| {
         searching(input, |words, query, rows| kept(words, query, rows, |_, _, row| row.id < 65_535))

@@ -11,7 +11,7 @@ pub fn control(byte: u8) -> bool {
     byte < 32 || byte == 127
 }
 
-/// Refuses what is no name: empty, then longer than 64 bytes, then holding a 0 byte, then holding another control character.
+/// Refuses what is no name: empty, then longer than 200 bytes, then holding a 0 byte, then holding another control character.
 pub fn judge(name: &[u8]) -> Result<(), Refusal> {
     if name.is_empty() {
         return Err(Refusal::Empty);

@@ -9,10 +9,10 @@ pub type Condition = (&'static str, fn(&Index<'_>) -> bool);
 /// All conditions but the first of all: that there are three words, and 3+N+4D+P within the slice.
 pub const CONDITIONS: [Condition; 12] = [
     ("at most 256 names", |index| index.names.len() <= NAMES),
-    ("at most 16,896 postings", |index| index.postings.len() <= POSTINGS),
+    ("at most 51,712 postings", |index| index.postings.len() <= POSTINGS),
     ("ids up to 65,535", |index| index.names.iter().all(|name| name.id <= MOST_ID)),
     ("ids strictly ascending", |index| index.names.windows(2).all(|two| two[0].id < two[1].id)),
-    ("sizes 3 to 66", |index| index.names.iter().all(|name| (LEAST_SIZE..=MOST_SIZE).contains(&name.size))),
+    ("sizes 3 to 202", |index| index.names.iter().all(|name| (LEAST_SIZE..=MOST_SIZE).contains(&name.size))),
     ("rows strictly ascending by size, then feature", rows_ascend),
     ("counts at least 1", |index| index.rows.iter().all(|row| row.count >= 1)),
     ("the first place 0, each next the previous place plus the previous count", places_follow),

@@ -5,7 +5,7 @@
 pub enum Refusal {
     /// The name or query is empty.
     Empty = 1,
-    /// The name or query is too long: for a name past 64 bytes, for a frame writer past 255.
+    /// The name or query is too long: for a name past 200 bytes, for a frame writer past 255.
     Long = 2,
     /// The name or query holds a 0 byte.
     Zero = 3,

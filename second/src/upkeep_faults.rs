@@ -6,7 +6,7 @@ use std::collections::BTreeSet;
 use crate::features::{control, grams, judge, numbered};
 use crate::generate::words::Plan;
 use crate::index::{cut, header, total};
-use crate::limits::{BLANK, INDEX_WORDS, MOST_ID, NAMES};
+use crate::limits::{BLANK, INDEX_WORDS, MOST_ID, NAMES, NAME_BYTES};
 use crate::listed::features_of_index;
 use crate::refusal::Refusal;
 use crate::upkeep::{add, live_names, run, run_by, withdraw, words_of_live, Add, Call, Live, Withdraw};
@@ -82,10 +82,10 @@ pub const ADD_FAULTS: [(&str, Add); 57] = [
     ("byte_31_passes", |words, id, name| pass_if(|name| but_for(31, name), words, id, name)),
     ("0_byte_passes", |words, id, name| pass_if(|name| but_for(0, name), words, id, name)),
     ("65_bytes_pass", |words, id, name| {
-        pass_if(|name| name.len() == 65 && !name.iter().any(|byte| control(*byte)), words, id, name)
+        pass_if(|name| name.len() == NAME_BYTES + 1 && !name.iter().any(|byte| control(*byte)), words, id, name)
     }),
     ("64_bytes_are_too_long", |words, id, name| {
-        if name.len() == 64 && live_names(words).is_ok() {
+        if name.len() == NAME_BYTES && live_names(words).is_ok() {
             Refusal::Long.number()
         } else {
             add(words, id, name)

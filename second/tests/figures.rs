@@ -73,7 +73,7 @@ fn lane_against_lanes_by_every_measure() {
 fn sizes_8_and_9_by_cosine_7_10() {
     let (m, t) = asked(3, 7, 10);
     assert_eq!((least_count(m, t, 8, 9), least(m, t, 8, 9)), (6, 6));
-    let sizes: Vec<u32> = (3..=66).filter(|size| searched(m, t, 8, *size)).collect();
+    let sizes: Vec<u32> = (3..=202).filter(|size| searched(m, t, 8, *size)).collect();
     assert_eq!(sizes, (4..=16).collect::<Vec<u32>>());
 }
 
@@ -128,10 +128,10 @@ fn equal_thresholds_give_equal_answers() {
 #[test]
 fn lengths_and_thresholds_at_their_limits() {
     let words = index(&["LANE"]);
-    let long = [b'A'; 65];
+    let long = [b'A'; 201];
     // query, p, q, number
     let vectors: [(&[u8], u32, u32, u8); 8] = [
-        (&long[..64], 1, 2, 0),
+        (&long[..200], 1, 2, 0),
         (&long, 1, 2, 2),
         (b"LANE", 0, 1, 5),
         (b"LANE", 1000, 1000, 0),
@@ -144,7 +144,10 @@ fn lengths_and_thresholds_at_their_limits() {
         let answer = search(&words, &query(1, p, q, 1000, name), &mut [LENT; 2]);
         assert_eq!(answer.number, number, "{} bytes, {p}/{q}", name.len());
     }
-    assert_eq!((features(&long[..64]).len(), features(&long[..1]).len(), features(&long).len()), (66, 3, 0));
+    assert_eq!((features(&long[..64]).len(), features(&long[..65]).len(), features(&long[..1]).len()), (66, 67, 3));
+    assert_eq!((features(&long[..200]).len(), features(&long).len()), (202, 0));
+    // AAA is there 198 times, and the last of them has that number
+    assert_eq!(features(&long[..200])[199], 0x4141_41C6);
 }
 
 #[test]
@@ -252,14 +255,17 @@ fn ties_go_by_feature_and_hopeless_candidates_are_dropped() {
 
 #[test]
 fn the_most_touches_a_search_can_cost() {
-    // 256 equal names of 64 bytes, least count 1: every posting of every list.
-    let name = "ABCDEFGHIJKLMNOPQRSTUVWXYZabcdefghijklmnopqrstuvwxyz0123456789+-";
-    let words = index(&[name; 256]);
-    let mut rows = [LENT; 256];
-    let answer = search(&words, &query(4, 1, 1000, 16_896, name.as_bytes()), &mut rows);
-    assert_eq!((answer.number, answer.rows, answer.touches), (0, 256, 16_896));
-    let answer = search(&words, &query(4, 1, 1000, 16_895, name.as_bytes()), &mut rows);
-    assert_eq!((answer.number, answer.rows, answer.touches), (7, 0, 16_895));
+    // 256 equal names of 64 bytes and of 200, least count 1: every posting of every list.
+    let long: String = (0..200).map(|at| char::from(32 + (at * 7 + at / 95) as u8 % 95)).collect();
+    for (length, most) in [(64, 16_896), (200, 51_712)] {
+        let name = &long[..length];
+        let words = index(&[name; 256]);
+        let mut rows = [LENT; 256];
+        let answer = search(&words, &query(4, 1, 1000, most, name.as_bytes()), &mut rows);
+        assert_eq!((answer.number, answer.rows, answer.touches), (0, 256, most));
+        let answer = search(&words, &query(4, 1, 1000, most - 1, name.as_bytes()), &mut rows);
+        assert_eq!((answer.number, answer.rows, answer.touches), (7, 0, most - 1));
+    }
 }
 
 #[test]

@@ -178,7 +178,7 @@ fn a_refused_name_is_refused_with_its_number() {
     let words = example();
     let long = [b'A'; 255];
     let vectors: [(&[u8], u32); 7] =
-        [(b"", 1), (&long[..65], 2), (&long, 2), (b"A\0", 3), (b"A\t", 12), (b"\x7f", 12), (b"A\t\0", 3)];
+        [(b"", 1), (&long[..201], 2), (&long, 2), (b"A\0", 3), (b"A\t", 12), (b"\x7f", 12), (b"A\t\0", 3)];
     for (name, number) in vectors {
         let log = log_of(&[(0, 1, b"AB"), (0, 2, name), (0, 4, b"AB")]);
         let (outcomes, pairs) = answered(&log, &SETTINGS, &words);

@@ -203,7 +203,7 @@ fn the_longest_names_are_answered() {
     assert_eq!(String::from_utf8(output).unwrap(), "4F040002\n".repeat(1024) + "5A04000000\n");
 }
 
-/// The index has room for every register: 256 names of 63 and 64 bytes that share next to nothing, and one of 16,385 words,
+/// The index has room for every register: 256 names of 199 and 200 bytes that share next to nothing, and one of 16,385 words,
 /// which a lookup refuses.
 #[test]
 fn every_register_has_its_room() {
@@ -211,21 +211,21 @@ fn every_register_has_its_room() {
     let letters: Vec<u8> = (0..=255).filter(|byte| !control(*byte)).collect();
     let wide: Vec<Registered> = (0..256)
         .map(|id| {
-            // 223 bytes can begin a name: the others begin the names of 63 bytes.
-            let (first, length) = (letters[id % 223], if id < 223 { 64 } else { 63 });
+            // 223 bytes can begin a name: the others begin the names of 199 bytes.
+            let (first, length) = (letters[id % 223], if id < 223 { 200 } else { 199 });
             let rest = (1..length).map(|_| random.pick(&letters));
             Registered { id: id as u32, name: [first].into_iter().chain(rest).collect() }
         })
         .collect();
     let filling = registers::filling(&mut random, 16_385);
-    for (register, least) in [(wide, 84_000), (filling, 16_385)] {
+    for (register, least) in [(wide, 257_000), (filling, 16_385)] {
         let bytes = registers::lines(&register).concat();
         let mut words = vec![0; IMPORTER_WORDS];
         assert_eq!(build(&bytes, &mut words).number, 0);
         let total = 3 + words[0] + 4 * words[1] + words[2];
         assert!(total >= least, "{total} words");
         let last = register.last().unwrap();
-        let settings = query_line(1, 1, 1, 16_896, b"");
+        let settings = query_line(1, 1, 1, 51_712, b"");
         let output = importer(&[bytes, settings, log_line(0, 1, &last.name)].concat());
         assert!(output.starts_with(b"4F"), "{}", output.escape_ascii());
         assert_eq!(importer(&registers::lines(&register).concat()), B.as_bytes());

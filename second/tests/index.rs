@@ -101,7 +101,7 @@ fn one_condition_broken() -> Vec<(usize, Vec<u32>)> {
     let many: Vec<(u32, Vec<u32>)> = (0..257).map(|id| (id, A.to_vec())).collect();
     let far = words_of(&[(1, A.to_vec()), (65_536, A.to_vec())]);
     let small = words_of(&[(1, A[..2].to_vec())]);
-    let great = words_of(&[(1, (0..67).collect())]);
+    let great = words_of(&[(1, (0..203).collect())]);
     vec![
         (0, words_of(&many)),
         (2, far),
@@ -186,7 +186,7 @@ fn good_by_making_anew(words: &[u32]) -> bool {
     let right = sizes.len() <= 256
         && sizes.iter().all(|(id, size)| {
             *id <= 65_535
-                && (3..=66).contains(size)
+                && (3..=202).contains(size)
                 && features.get(id).is_some_and(|of| of.len() as u32 == *size && of.iter().all(|(s, _)| s == size))
         })
         && features.keys().all(|id| sizes.contains_key(id));
@@ -208,7 +208,7 @@ fn every_word_damaged_one_by_one() {
         for at in 0..words.len() {
             let word = words[at];
             let near = [word.wrapping_add(1), word.wrapping_sub(1), word.wrapping_add(256), word.wrapping_sub(256)];
-            let far = [0, 1, 2, 3, 4, 5, 6, 7, 66, 67, 255, 256, 257, 65_536, 1 << 24, 1 << 30, 1 << 31, BLANK];
+            let far = [0, 1, 2, 3, 4, 5, 6, 7, 66, 67, 202, 203, 255, 256, 257, 65_536, 1 << 24, 1 << 30, 1 << 31, BLANK];
             let bits = (0..32).map(|bit| word ^ (1 << bit));
             for other in near.into_iter().chain(far).chain(bits).chain(words.clone()) {
                 let damaged = with(&words, &[(at, other)]);

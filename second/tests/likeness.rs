@@ -19,12 +19,17 @@ fn measures_are_1_to_4() {
     assert_eq!(numbers, [4, 0, 0, 0, 0, 4, 4, 4]);
 }
 
+/// The sizes of short names, and some of long ones.
+fn sizes() -> impl Iterator<Item = u32> {
+    (3..=40).chain([63, 64, 65, 66, 67, 100, 133, 134, 199, 200, 201, 202])
+}
+
 #[test]
 fn the_least_count_is_from_1_to_the_smaller_size() {
     for measure in MEASURES {
         for threshold in thresholds() {
-            for x in 3..=66 {
-                for y in (3..=66).filter(|y| searched(measure, threshold, x, *y)) {
+            for x in sizes() {
+                for y in sizes().filter(|y| searched(measure, threshold, x, *y)) {
                     let t = least_count(measure, threshold, x, y);
                     assert!(1 <= t && t <= x.min(y), "{measure:?} {threshold:?} {x} {y}: {t}");
                     assert!(similar(measure, threshold, x, y, t));
@@ -57,7 +62,7 @@ fn the_least_count_is_the_first_from_1_upward() {
 fn the_least_count_is_that_of_the_definition() {
     for measure in MEASURES {
         for threshold in thresholds() {
-            for (x, y) in (3..=66).flat_map(|x| (3..=66).map(move |y| (x, y))) {
+            for (x, y) in sizes().flat_map(|x| sizes().map(move |y| (x, y))) {
                 let t = if searched(measure, threshold, x, y) { least_count(measure, threshold, x, y) } else { 0 };
                 let by_definition = least(measure, threshold, x as usize, y as usize);
                 assert_eq!(t as usize, by_definition, "{measure:?} {threshold:?} {x} {y}");
@@ -70,8 +75,8 @@ fn the_least_count_is_that_of_the_definition() {
 fn a_size_that_is_not_searched_holds_no_similar_name() {
     for measure in MEASURES {
         for threshold in thresholds() {
-            for x in 3..=66 {
-                for y in (3..=66).filter(|y| !searched(measure, threshold, x, *y)) {
+            for x in sizes() {
+                for y in sizes().filter(|y| !searched(measure, threshold, x, *y)) {
                     assert!(!similar(measure, threshold, x, y, x.min(y)), "{measure:?} {threshold:?} {x} {y}");
                 }
             }
@@ -83,7 +88,7 @@ fn a_size_that_is_not_searched_holds_no_similar_name() {
 fn likeness_is_the_same_both_ways() {
     for measure in MEASURES {
         for threshold in thresholds() {
-            for (x, y) in (3..=66).flat_map(|x| (x..=66).map(move |y| (x, y))) {
+            for (x, y) in sizes().flat_map(|x| sizes().map(move |y| (x, y))) {
                 assert_eq!(searched(measure, threshold, x, y), searched(measure, threshold, y, x));
                 assert_eq!(least_count(measure, threshold, x, y), least_count(measure, threshold, y, x));
             }

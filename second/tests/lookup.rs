@@ -70,7 +70,7 @@ fn whole_inputs() {
 
 #[test]
 fn long_queries() {
-    for (length, output) in [(64, "4500000000000000010001\n"), (65, "580200000000\n"), (255, "580200000000\n")] {
+    for (length, output) in [(64, "4500000000000000010001\n"), (65, "4500000000000000010001\n"), (200, "4500000000000000010001\n"), (201, "580200000000\n"), (255, "580200000000\n")] {
         let query = query_line(1, 1, 1, 255, &vec![b'A'; length]);
         assert_eq!(lookup(&[R.as_bytes(), &query].concat()), output.as_bytes(), "{length} bytes");
     }
@@ -82,7 +82,7 @@ fn refused_registers() {
     // 256 rows, least count 3: one signature of 256 postings, then two tests of 256 candidates.
     let all: String = (0..256).map(|id| format!("52{id:04X}030303\n")).collect::<String>() + "4501000000030000010001\n";
     let vectors = [
-        ("a name of 65 bytes", name_line(1, &[b'A'; 65]), "580200000000\n".to_string()),
+        ("a name of 201 bytes", name_line(1, &[b'A'; 201]), "580200000000\n".to_string()),
         ("a name of 255 bytes", name_line(1, &[b'A'; 255]), "580200000000\n".to_string()),
         ("a 0 byte", name_line(1, &[0]), "580300000000\n".to_string()),
         ("a tab", name_line(1, b"A\t"), "580C00000000\n".to_string()),

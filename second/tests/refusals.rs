@@ -11,27 +11,29 @@ use second::search::search;
 
 /// What is wrong with a name, the name, its number.
 fn names() -> Vec<(&'static str, Vec<u8>, u8)> {
-    let mut long_with_zero = vec![b'A'; 65];
-    long_with_zero[64] = 0;
+    let mut long_with_zero = vec![b'A'; 201];
+    long_with_zero[200] = 0;
     vec![
         ("empty", b"".to_vec(), 1),
-        ("65 bytes", vec![b'A'; 65], 2),
-        ("66 bytes", vec![b'A'; 66], 2),
+        ("201 bytes", vec![b'A'; 201], 2),
+        ("202 bytes", vec![b'A'; 202], 2),
         ("255 bytes", vec![b'A'; 255], 2),
-        ("65 bytes and a 0 byte", long_with_zero, 2),
+        ("201 bytes and a 0 byte", long_with_zero, 2),
         ("nothing but a 0 byte", vec![0], 3),
         ("a 0 byte first", b"\0LANE".to_vec(), 3),
         ("a 0 byte last", b"LANE\0".to_vec(), 3),
-        ("64 bytes, one of them 0", [&[b'A'; 63][..], &[0]].concat(), 3),
+        ("200 bytes, one of them 0", [&[b'A'; 199][..], &[0]].concat(), 3),
         ("nothing", b"LANE".to_vec(), 0),
         ("nothing, 64 bytes", vec![b'A'; 64], 0),
+        ("nothing, 65 bytes", vec![b'A'; 65], 0),
+        ("nothing, 200 bytes", vec![b'A'; 200], 0),
         ("a tab", b"LA\tNE".to_vec(), 12),
         ("a delete code", b"LANE\x7f".to_vec(), 12),
         ("nothing but byte 1", vec![1], 12),
         ("byte 31 first", b"\x1fLANE".to_vec(), 12),
-        ("64 bytes, one of them a line feed", [&[b'A'; 63][..], b"\n"].concat(), 12),
+        ("200 bytes, one of them a line feed", [&[b'A'; 199][..], b"\n"].concat(), 12),
         ("a tab before a 0 byte", b"LA\tNE\0".to_vec(), 3),
-        ("65 bytes and a tab", [&[b'A'; 64][..], b"\t"].concat(), 2),
+        ("201 bytes and a tab", [&[b'A'; 200][..], b"\t"].concat(), 2),
         ("nothing, bytes 32 and 126", b" ~".to_vec(), 0),
         ("nothing, bytes 128 and 255", vec![128, 255], 0),
     ]
@@ -121,7 +123,7 @@ fn registers() -> Vec<(&'static str, Vec<u8>, u8, usize)> {
         ("a query among the names", [&lane[..], b"51010001000100000000014C\n", &lanes].concat(), 11, 2),
         ("a row frame", after(b"52000A060604\n"), 11, 3),
         ("an empty name", after(&name_line(12, b"")), 1, 3),
-        ("a name of 65 bytes", after(&name_line(12, &[b'A'; 65])), 2, 3),
+        ("a name of 201 bytes", after(&name_line(12, &[b'A'; 201])), 2, 3),
         ("a name of 255 bytes", after(&name_line(12, &[b'A'; 255])), 2, 3),
         ("a 0 byte", after(&name_line(12, b"A\0")), 3, 3),
         ("a tab in a name", after(&name_line(12, b"A\t")), 12, 3),
@@ -134,14 +136,14 @@ fn registers() -> Vec<(&'static str, Vec<u8>, u8, usize)> {
         ("nothing: no bytes", b"".to_vec(), 0, 0),
         ("nothing: id 0 first", name_line(0, b"A"), 0, 0),
         ("nothing: id 65,535", [name_line(65_534, b"A"), name_line(65_535, b"A")].concat(), 0, 0),
-        ("nothing: 64 bytes", name_line(1, &[b'A'; 64]), 0, 0),
+        ("nothing: 200 bytes", name_line(1, &[b'A'; 200]), 0, 0),
     ]
 }
 
 #[test]
 fn registers_one_by_one() {
     for (what, bytes, number, line) in registers() {
-        let mut words = vec![5; 1000];
+        let mut words = vec![5; 1100];
         let built = build(&bytes, &mut words);
         assert_eq!((built.number, built.line), (number, line), "{what}");
         assert_eq!(words.iter().all(|word| *word == 4_294_967_295), number != 0, "{what}");
@@ -212,7 +214,7 @@ fn a_build_needs_its_total_and_says_so_last() {
 #[test]
 fn a_refused_build_is_refused_by_every_search() {
     for (what, bytes, number, _) in registers() {
-        let mut words = vec![5; 1000];
+        let mut words = vec![5; 1100];
         build(&bytes, &mut words);
         let answer = search(&words, &query(1, 1, 1, 1000, b"LANE"), &mut [LENT; 3]);
         assert_eq!(answer.number, if number == 0 { 0 } else { 6 }, "{what}");

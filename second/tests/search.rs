@@ -51,7 +51,7 @@ fn held_to_the_definition(index: &Index<'_>, wanted: &[u32], measure: Measure, t
     assert_eq!(rows, by_definition, "{measure:?} {threshold:?}");
     let x = wanted.len() as u32;
     let mut all = 0;
-    for size in (3..=66).filter(|size| searched(measure, threshold, x, *size)) {
+    for size in (3..=202).filter(|size| searched(measure, threshold, x, *size)) {
         let one = search_size(index, size, wanted, measure, threshold);
         let names = index.names.iter().filter(|name| name.size == size).count() as u32;
         assert_eq!(one.least, least_count(measure, threshold, x, size));

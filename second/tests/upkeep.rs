@@ -70,15 +70,15 @@ fn the_example_of_the_rule() {
 fn names() -> Vec<(&'static str, Vec<u8>, u8)> {
     vec![
         ("empty", b"".to_vec(), 1),
-        ("65 bytes", vec![b'A'; 65], 2),
+        ("201 bytes", vec![b'A'; 201], 2),
         ("255 bytes", vec![b'A'; 255], 2),
-        ("65 bytes, one of them 0", [&[b'A'; 64][..], b"\0"].concat(), 2),
+        ("201 bytes, one of them 0", [&[b'A'; 200][..], b"\0"].concat(), 2),
         ("a 0 byte", b"A\0".to_vec(), 3),
         ("a tab before a 0 byte", b"\t\0".to_vec(), 3),
         ("a tab", b"A\t".to_vec(), 12),
         ("a delete code", b"\x7f".to_vec(), 12),
         ("nothing", b"A".to_vec(), 0),
-        ("nothing, 64 bytes", vec![b'B'; 64], 0),
+        ("nothing, 200 bytes", vec![b'B'; 200], 0),
         ("nothing, bytes 32, 126, 128 and 255", vec![32, 126, 128, 255], 0),
     ]
 }
@@ -97,7 +97,7 @@ fn an_add_judges_in_its_order() {
                 (0..8).map(|faults| (if faults & 1 == 1 { 256 } else { 255 }, faults & 2 == 2, faults & 4 == 0))
             {
                 let mut words = crowd(count);
-                words.extend(vec![7; if room { 400 } else { 0 }]);
+                words.extend(vec![7; if room { 1100 } else { 0 }]);
                 words[2] += u32::from(spoilt);
                 let before = words.clone();
                 let expected = match (spoilt, number, live, count, room) {
@@ -206,7 +206,7 @@ fn called(names: &mut Names, call: &Call) -> u8 {
             let bad = name.iter().any(|byte| *byte < 32 || *byte == 127);
             match (name.len(), name.contains(&0), bad) {
                 (0, ..) => 1,
-                (65.., ..) => 2,
+                (201.., ..) => 2,
                 (_, true, _) => 3,
                 (_, _, true) => 12,
                 _ if names.contains_key(id) => 9,
@@ -369,14 +369,14 @@ fn generated_adds_leave_good_indexes() {
     }
 }
 
-/// The most names, postings, rows and words: 256 names of 64 bytes, almost each feature with a row of its own.
+/// The most names, postings, rows and words: 256 names of 199 and 200 bytes, almost each feature with a row of its own.
 #[test]
 fn the_largest_index_takes_its_last_name() {
     let register = registers::wide(&mut Random::of(13, 0, 0), 256);
     let names: Vec<(u32, Vec<u32>)> = register.iter().map(|name| (name.id, features(&name.name))).collect();
     let whole = words_of(&names);
     let (last, name) = (register[100].id, &register[100].name);
-    for (length, number) in [(84_739, 0), (whole.len(), 0), (whole.len() - 1, 8)] {
+    for (length, number) in [(258_819, 0), (whole.len(), 0), (whole.len() - 1, 8)] {
         let mut words = vec![7; length];
         let fewer = words_of(&names.iter().filter(|name| name.0 != last).cloned().collect::<Vec<_>>());
         words[..fewer.len()].copy_from_slice(&fewer);

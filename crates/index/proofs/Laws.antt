@@ -17,8 +17,9 @@ use Rattle.laws.proofs.Ascending.{rises, rises-apart, ascending-next}
 use Rattle.laws.proofs.Members.{member-place}
 use Rattle.binary_search.specs.declared.Seat.the-variants.{At}
 use Rattle.binary_search.specs.Seats.{seatOf}
+use Rattle.names.specs.Features.{mostFeatures}
 use Rattle.words.specs.Words.{headWidth, nameCount, rowCount, postingCount, nameId, nameSize, rowSize, rowPlace, rowLength, posting, listAt, total}
-use Rattle.index.specs.Good.{mostNames, mostPostings, idsIn, isName, Good, headGood, namesGood, rowsGood, listsGood, goodOf}
+use Rattle.index.specs.Good.{mostNames, mostPostings, largestId, leastSize, idsIn, isName, Good, headGood, namesGood, rowsGood, listsGood, goodOf}
 use Rattle.index.specs.Check.{Named}
 use Rattle.index.proofs.Total.{total-same, total-good}
 use Rattle.index.proofs.Facts.{Whole, good-facts, length-list, list-getD}
@@ -26,7 +27,7 @@ use Rattle.index.proofs.Names.{seat-of-name}
 
 -- ---- the head
 
--- at most 256 names, at most 16,896 postings, and all of it within the slice
+-- at most the most names and postings, and all of it within the slice
 pub good-names-most : (w : List ℕ) → Good w → nameCount w ≤ mostNames
 good-names-most w g = good-facts w g .head .names
 
@@ -49,7 +50,7 @@ pub good-ids-apart : (w : List ℕ) → Good w → (i j : ℕ) → i < nameCount
 good-ids-apart w g = rises-apart (nameCount w) (nameId w) (good-ids w g)
 
 pub good-name-within : (w : List ℕ) → Good w → (i : ℕ) → i < nameCount w
-    → (nameId w i ≤ 65535) × (3 ≤ nameSize w i) × (nameSize w i ≤ 66)
+    → (nameId w i ≤ largestId) × (leastSize ≤ nameSize w i) × (nameSize w i ≤ mostFeatures)
 good-name-within w g i l = let n = good-facts w g .names in (n .id i l, n .least i l, n .most i l)
 
 -- its head and its names are good

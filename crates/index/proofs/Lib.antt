@@ -5,3 +5,4 @@ mod Check
 mod Names
 mod Tally
 pub mod Total
+pub mod Limits

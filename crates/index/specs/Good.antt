@@ -4,7 +4,7 @@
 use mathlib.Core.Path.{_≡_}
 use mathlib.Core.Bool.{Bool, true, _&&_, _||_}
 use mathlib.Core.List.{List}
-use Prim.Native.Nat.{ℕ, zero, suc, _+_, _-_, _*_}
+use Prim.Native.Nat.{ℕ, zero, suc, _+_, _-_, _*_, _≤_, _<_}
 use lib.ListN.{length}
 use lib.Dec.{leb, ltb, eqb}
 use Rattle.laws.specs.Lists.{member, tabulate}
@@ -29,10 +29,13 @@ leastSize = sizeOf gramLength 1
 
 -- ---- the head
 
--- the head words are there, N and P are within their limits, and all that the head announces lies within the slice
+-- the head words are there, N and P are within their limits, and all that the head announces lies within the slice; `most` is P's limit
+abbrev pub headWithin : ℕ → List ℕ → Bool
+headWithin most w =
+    leb headWidth (length w) && leb (nameCount w) mostNames && leb (postingCount w) most && leb (total w) (length w)
+
 unfoldable pub headGood : List ℕ → Bool
-headGood w =
-    leb headWidth (length w) && leb (nameCount w) mostNames && leb (postingCount w) mostPostings && leb (total w) (length w)
+headGood w = headWithin mostPostings w
 
 -- ---- the names
 
@@ -40,15 +43,19 @@ headGood w =
 unfoldable pub idsIn : List ℕ → List ℕ
 idsIn w = tabulate (nameId w) (nameCount w)
 
--- a name's id is at most 65,535 and its size is 3 to 66
+-- a name's id is at most 65,535, and its size is from 3 to the largest
+abbrev pub nameWithin : ℕ → List ℕ → ℕ → Bool
+nameWithin largest w i = leb (nameId w i) largestId && leb leastSize (nameSize w i) && leb (nameSize w i) largest
+
 unfoldable pub nameGood : List ℕ → ℕ → Bool
-nameGood w i = leb (nameId w i) largestId && leb leastSize (nameSize w i) && leb (nameSize w i) mostFeatures
+nameGood w i = nameWithin mostFeatures w i
 
 -- ids strictly ascending
+abbrev pub idsGood : List ℕ → Bool
+idsGood w = allBelow (nameCount w - 1) (λ (i : ℕ). ltb (nameId w i) (nameId w (i + 1)))
+
 unfoldable pub namesGood : List ℕ → Bool
-namesGood w =
-    allBelow (nameCount w) (nameGood w)
-    && allBelow (nameCount w - 1) (λ (i : ℕ). ltb (nameId w i) (nameId w (i + 1)))
+namesGood w = allBelow (nameCount w) (nameGood w) && idsGood w
 
 -- ---- the rows
 
@@ -100,5 +107,15 @@ listsGood w =
 unfoldable pub goodOf : List ℕ → Bool
 goodOf w = headGood w && namesGood w && rowsGood w && listsGood w
 
+-- the same with other limits on the largest size and the most postings
+unfoldable pub goodWithin : ℕ → ℕ → List ℕ → Bool
+goodWithin largest most w =
+    headWithin most w && (allBelow (nameCount w) (nameWithin largest w) && idsGood w) && rowsGood w && listsGood w
+
 abbrev pub Good : List ℕ → Type 0
 Good w = goodOf w ≡ true
+
+-- what other limits are asked of: no name of the words has a larger size, and there are no more postings
+pub record Inside (largest most : ℕ) (w : List ℕ) : Type 0 where
+  pub sizes : (i : ℕ) → i < nameCount w → nameSize w i ≤ largest
+  pub postings : postingCount w ≤ most

@@ -6,7 +6,8 @@
 // name in two lists of size 2; a size that its lists do not have; rows not ascending by feature; two rows of one size and feature; rows not ascending by
 // size; a row of no ids; the first place is 1; a place that is not due; counts that sum to less than P; counts that sum to more than P; a list not
 // ascending; an id twice in a list; an id that is no name; an id beyond all ids; a name in one list too few; a name in one list too many; a name of size
-// 4 in a list of size 3; D of 4,294,967,295; three words of 4,294,967,295; thirty of them.
+// 4 in a list of size 3; D of 4,294,967,295; three words of 4,294,967,295; thirty of them; one name of size 66, 67,
+// 202 and 203, each of its features in a list of its own.
 use libc::STDIN_FILENO;
 use libc::STDOUT_FILENO;
 ghost use mathlib.Core.Path.{_≡_};

@@ -11,7 +11,7 @@ use Rattle.laws.specs.Cases.{Case, case, firstCase}
 
 -- the most bytes that a name has
 abbrev pub longest : ℕ
-longest = 64
+longest = 200
 
 -- a control character: a byte below 32, such as a tab, or the delete code 127
 abbrev pub isControl : ℕ → Bool

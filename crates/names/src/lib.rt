@@ -9,7 +9,7 @@ ghost use Rattle.names.specs.Features.{padded, gramAt, timesIn, features
 ghost use Rattle.names.specs.Set.{filled, marks, Ends};
 
 // The most bytes that a name has.
-pub const LONGEST: usize = 64;
+pub const LONGEST: usize = 200;
 
 // The features of one name: the first `len` of `items`, in order of appearance; the places after them are 0.
 pub struct FeatureSet {

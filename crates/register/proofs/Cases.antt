@@ -64,8 +64,8 @@ examples =
     ∷ builds (10 ∷ lane) 99 11 1
     -- a name of no bytes
     ∷ builds (lane ++ line (0 ∷ 11 ∷ 0 ∷ [])) 99 1 2
-    -- a name of 65 bytes
-    ∷ builds (line (0 ∷ 11 ∷ 65 ∷ replicate 65 65)) 99 2 1
+    -- a name of 201 bytes
+    ∷ builds (line (0 ∷ 11 ∷ 201 ∷ replicate 201 65)) 99 2 1
     -- a 0 byte
     ∷ builds (line (0 ∷ 11 ∷ 1 ∷ 0 ∷ [])) 99 3 1
     -- a tab

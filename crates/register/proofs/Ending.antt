@@ -4,9 +4,10 @@ use mathlib.Core.Path.{_≡_, refl, sym, ap, ap₂, subst, _∙_}
 use mathlib.Core.Bool.{Bool, true, false}
 use mathlib.Core.List.{List, map}
 use Prim.Native.Nat.{ℕ, _≤_, _<_}
+use native.Mathlib.Nat.{min-le-right}
 use native.Mathlib.Omega.{arith}
 use borrow.Author.Tests.{eq-eqb, ne-eqb}
-use lib.ListN.{length, take, replicate}
+use lib.ListN.{length, take, replicate, length-take}
 use Rattle.index.specs.Good.{mostNames, mostPostings}
 use Rattle.index_writer.specs.Built.{Entry, wordOf, runsOf, wordsFrom, rowsOf, wordsOf, Fit}
 use Rattle.index_writer.specs.Keys.{triplesAt, allKeys, Keyed}
@@ -31,18 +32,21 @@ pub record Held (es : List Entry) (names keys ordered : List ℕ) (n p : ℕ) : 
   pub sizes : sizesOf (take n names) ≡ p
 
 pub held : {es : List Entry} {names keys : List ℕ} {n p : ℕ} → Tables es names keys n p → (ordered : List ℕ)
-    → length names ≡ mostNames → length keys ≡ mostPostings → length ordered ≡ mostPostings → Held es names keys ordered n p
-held {es} {names} {keys} {n} {p} t ordered a b d =
+    → length names ≡ mostNames → length ordered ≡ length keys → Held es names keys ordered n p
+held {es} {names} {keys} {n} {p} t ordered a d =
     let c = t .count in
     let s = t .sum in
     let f = t .fit .few in
     let k = keys-triples 0 es in
     let m = few-postings es (t .fit) in
+    let l = sym (length-take p keys) ∙ ap length (t .postings) in
+    let r = min-le-right p (length keys) in
+    let within : p ≤ length keys = omega arith in
     record {
       tables = t;
       most = omega arith;
       names-within = omega arith;
-      keys-within = omega arith;
+      keys-within = within;
       ordered-within = omega arith;
       sizes = ap sizesOf (t .words) ∙ sizes-keys 0 es (t .fit .each) ∙ sym s;
     }

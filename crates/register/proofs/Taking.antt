@@ -7,13 +7,14 @@ use native.Mathlib.Numerals.{add-one}
 use native.Mathlib.Omega.{arith}
 use borrow.Author.Tests.{eq-eqb, ne-eqb}
 use lib.ListN.{length, getD, take, drop, set, length-append, length-drop, drop-of-length-le}
-use lib.Seq.{take-all, take-suc-set, take-paste, paste}
+use lib.Seq.{length-take-le, take-all, take-suc-set, take-paste, paste}
 use Rattle.names.specs.Names.{judgeOf}
 use Rattle.names.specs.Features.{featuresOf, mostFeatures}
-use Rattle.names.proofs.Laws.{size-most}
-use Rattle.fields.specs.Layouts.{readOf}
+use Rattle.names.proofs.Laws.{length-features, size-most}
+use Rattle.laws.specs.Lists.{sumOf}
+use Rattle.fields.specs.Layouts.{readOf, headSize}
 use Rattle.fields.proofs.Laws.{read-fits}
-use Rattle.fields.proofs.Layouts.{field-below, read-good}
+use Rattle.fields.proofs.Layouts.{field-below, length-name, read-good}
 use Rattle.frames.specs.Frames.{nameFrame}
 use Rattle.index.specs.Good.{mostNames, mostPostings, largestId}
 use Rattle.index_writer.specs.Built.{Entry, noEntry, EntryFit, Fit, wordOf}
@@ -23,7 +24,7 @@ use Rattle.index_writer.proofs.Entries.{length-entries}
 use Rattle.index_writer.proofs.Built.{fit-nil, fit-snoc, name-fit}
 use Rattle.lines.specs.Lines.{linesOf, lineLength}
 use Rattle.register.specs.Build.{idIn, nameOf, nextFrom, nextId, judgeLine, entryOf, Taken, takeLines, takenOf, entriesOf}
-use Rattle.register.specs.Steps.{Tables, Read}
+use Rattle.register.specs.Steps.{KeysFit, Tables, Read}
 use Rattle.lines.proofs.Lines.{lines-nil, lines-at, line-some}
 use Rattle.register.proofs.Judging.{good-line}
 
@@ -59,6 +60,15 @@ unfolding takeLines
 take-good es l ls z = rw (eq-eqb (judgeLine (length es) (nextId es) l) 0 z)
 
 -- ---- the tables with one name more
+
+-- a line has two bytes and more for each feature of its name
+pub line-half : (count next : ℕ) (line : List ℕ) → judgeLine count next line ≡ 0 → 2 * length (featuresOf (nameOf line)) ≤ length line
+unfolding headSize sumOf
+line-half count next line z =
+    let g = good-line count next line z in
+    let f = length-features (nameOf line) (g .1) in
+    let n = length-name nameFrame line (g .0) refl in
+    omega arith
 
 pub id-most : (count next : ℕ) (line : List ℕ) → judgeLine count next line ≡ 0 → idIn line ≤ largestId
 id-most count next line z =
@@ -121,6 +131,7 @@ pub record Reached (register names keys : List ℕ) (n p next at : ℕ) : Type 0
   pub tables : Tables es names keys n p
   pub least : next ≡ nextId es
   pub rest : takeLines es (linesOf (drop at register)) ≡ takenOf register
+  pub half : 2 * p ≤ at
   pub within : at ≤ length register
 
 pub reached-nil : (register names keys : List ℕ) → Reached register names keys 0 0 0 0
@@ -131,6 +142,7 @@ reached-nil register names keys =
       tables = record { fit = fit-nil; count = refl; words = refl; sum = refl; postings = refl };
       least = refl;
       rest = refl;
+      half = omega arith;
       within = omega arith;
     }
 
@@ -199,12 +211,25 @@ module _ {register names keys : List ℕ} {n p next at end number : ℕ} (t : Tu
     pub turn-id : idIn (lineAt register at end) ≤ largestId
     turn-id = id-most n next (lineAt register at end) (sym (t .judged) ∙ z)
 
-    pub turn-room : (n < mostNames) × (p + length (featuresOf (nameOf (lineAt register at end))) ≤ mostPostings)
-    turn-room =
+    turn-half : 2 * (p + length (featuresOf (nameOf (lineAt register at end)))) ≤ end
+    turn-half =
+        let h = line-half n next (lineAt register at end) (sym (t .judged) ∙ z) in
+        let b = t .bound in
+        let d = length-drop at register in
+        let k = length-take-le (end - at) (drop at register) (omega arith) in
+        let s = t .stretch in
+        let before = t .reach .half in
+        omega arith
+
+    pub turn-room : (k : ℕ) → KeysFit (length register) k
+        → (n < mostNames) × (p + length (featuresOf (nameOf (lineAt register at end))) ≤ k)
+    turn-room k fit =
         let r = tables-room (t .reach .es) names keys n p (t .reach .tables) (lineAt register at end) turn-good in
         let r1 = r .1 in
         let m = size-most (nameOf (lineAt register at end)) in
-        (r .0, omega arith)
+        let h = turn-half in
+        let b = t .bound in
+        (r .0, fit (p + length (featuresOf (nameOf (lineAt register at end)))) (omega arith) (omega arith))
 
     pub turn-more : (names₁ keys₁ : List ℕ) (p₁ id₁ : ℕ) → n < length names → p + length (featuresOf (nameOf (lineAt register at end))) ≤ length keys
         → id₁ ≡ idIn (lineAt register at end)
@@ -220,5 +245,6 @@ module _ {register names keys : List ℕ} {n p next at end number : ℕ} (t : Tu
           tables = tables-snoc (r .es) names keys n p (r .tables) line turn-good names₁ keys₁ p₁ hn hp ep en et;
           least = ap (λ (x : ℕ). x + 1) ei ∙ sym (next-snoc 0 (r .es) (entryOf line));
           rest = sym (take-good (r .es) line (linesOf (drop end register)) (sym turn-judged ∙ z)) ∙ ap (takeLines (r .es)) (sym (lines-at register at end (t .more) (t .stretch))) ∙ r .rest;
+          half = (let h = turn-half in let e = ep in omega arith);
           within = t .bound;
         }

@@ -2,11 +2,22 @@
 -- Assumes nothing.
 use mathlib.Core.Path.{_≡_}
 use mathlib.Core.List.{List, map}
-use Prim.Native.Nat.{ℕ, _≤_}
+use Prim.Native.Nat.{ℕ, _*_, _≤_}
 use lib.ListN.{length, take}
+use Rattle.index.specs.Good.{mostPostings}
 use Rattle.index_writer.specs.Built.{Entry, Fit, wordOf}
 use Rattle.index_writer.specs.Keys.{allKeys}
 use Rattle.register.specs.Build.{judgeLine, idIn, nameOf, takenOf, entriesOf}
+
+-- ---- the room for keys
+
+-- the keys of a register of n bytes fit k places, however many they are: at most those of any names, and one for two bytes
+abbrev pub KeysFit : ℕ → ℕ → Type 0
+KeysFit n k = (p : ℕ) → p ≤ mostPostings → 2 * p ≤ n → p ≤ k
+
+-- so many keys are few
+abbrev pub fewKeys : ℕ
+fewKeys = 8192
 
 -- ---- one line
 

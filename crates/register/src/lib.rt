@@ -8,15 +8,18 @@ ghost use Rattle.names.specs.Names.{judgeOf};
 ghost use Rattle.names.specs.Features.{featuresOf};
 ghost use Rattle.words.specs.Words.{sizeRoom, featureSpan};
 ghost use Rattle.fields.specs.Layouts.{longestName};
-ghost use Rattle.index.specs.Good.{mostNames, mostPostings, largestId};
+ghost use Rattle.index.specs.Good.{mostNames, largestId};
 ghost use Rattle.index_writer.specs.Keys.{placeSpan};
 ghost use Rattle.register.specs.Build.{builtOf, wordsAfter};
-ghost use Rattle.register.specs.Steps.{Heard, Read};
+ghost use Rattle.register.specs.Steps.{KeysFit, fewKeys, Heard, Read};
 
 // How many words are room for the index of every register.
 pub const MOST_WORDS: usize = words::HEAD_WIDTH
     + words::NAME_WIDTH * index::MOST_NAMES
     + (words::ROW_WIDTH + 1) * index::MOST_POSTINGS;
+
+// A register of at most twice as many bytes has no more keys than this: a line has more than two bytes for each feature of its name.
+const FEW_KEYS: usize = 8192;
 
 // What a build answers: its number, and the place of the first bad line, from 1, or 0.
 pub struct Built {
@@ -103,7 +106,7 @@ struct Taken {
 
 // Reads the lines until one is bad, and puts the words and the keys of their names into the tables.
 fn take_lines(register: &[u8], name: &mut [u8], names: &mut [u32], keys: &mut [u64]) -> Taken
-    requires { ⌜ (length (now name) ≡ longestName) × (length (now names) ≡ mostNames) × (length (now keys) ≡ mostPostings) ⌝ }
+    requires { ⌜ (length (now name) ≡ longestName) × (length (now names) ≡ mostNames) × KeysFit (length (now register)) (length (now keys)) ⌝ }
     ensures { λ r. ⌜ Read (now (register .entry)) (now (names .exit)) (now (keys .exit)) (r .number) (r .line) (r .names) (r .postings) ⌝ }
 {
     let mut n = 0;
@@ -148,7 +151,7 @@ fn build_with(
     ordered: &mut [u64],
     words: &mut [u32],
 ) -> Built
-    requires { ⌜ (length (now name) ≡ longestName) × (length (now names) ≡ mostNames) × (length (now keys) ≡ mostPostings) × (length (now ordered) ≡ mostPostings) ⌝ }
+    requires { ⌜ (length (now name) ≡ longestName) × (length (now names) ≡ mostNames) × KeysFit (length (now register)) (length (now keys)) × (length (now ordered) ≡ length (now keys)) ⌝ }
     ensures { λ r. ⌜ (r ≡ builtOf (now (register .entry)) (length (now (words .entry)))) × (now (words .exit) ≡ wordsAfter (now (register .entry)) (now (words .entry))) ⌝ }
 {
     let taken = take_lines(register, name, names, keys);
@@ -169,8 +172,27 @@ fn build_with(
     Built { number: 8, line: 0 }
 }
 
-// Builds the index of a register.
-pub fn build(register: &[u8], words: &mut [u32]) -> Built
+// Builds the index of a register of so few bytes that it has few keys, with tables of that size: a table is set to 0 before it is used.
+fn build_few(register: &[u8], words: &mut [u32]) -> Built
+    requires { ⌜ length (now register) ≤ 2 * fewKeys ⌝ }
+    ensures { λ r. ⌜ (r ≡ builtOf (now (register .entry)) (length (now (words .entry)))) × (now (words .exit) ≡ wordsAfter (now (register .entry)) (now (words .entry))) ⌝ }
+{
+    let mut name = [0u8; fields::LONGEST_NAME];
+    let mut names = [0u32; index::MOST_NAMES];
+    let mut keys = [0u64; FEW_KEYS];
+    let mut ordered = [0u64; FEW_KEYS];
+    build_with(
+        register,
+        &mut name,
+        &mut names,
+        &mut keys,
+        &mut ordered,
+        words,
+    )
+}
+
+// The same with tables for as many keys as any register has.
+fn build_many(register: &[u8], words: &mut [u32]) -> Built
     ensures { λ r. ⌜ (r ≡ builtOf (now (register .entry)) (length (now (words .entry)))) × (now (words .exit) ≡ wordsAfter (now (register .entry)) (now (words .entry))) ⌝ }
 {
     let mut name = [0u8; fields::LONGEST_NAME];
@@ -185,4 +207,14 @@ pub fn build(register: &[u8], words: &mut [u32]) -> Built
         &mut ordered,
         words,
     )
+}
+
+// Builds the index of a register.
+pub fn build(register: &[u8], words: &mut [u32]) -> Built
+    ensures { λ r. ⌜ (r ≡ builtOf (now (register .entry)) (length (now (words .entry)))) × (now (words .exit) ≡ wordsAfter (now (register .entry)) (now (words .entry))) ⌝ }
+{
+    if register.len() <= 2 * FEW_KEYS {
+        return build_few(register, words);
+    }
+    build_many(register, words)
 }

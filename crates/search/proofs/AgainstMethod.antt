@@ -150,13 +150,13 @@ module _ (w : List ℕ) (good : Good w) (m p q : ℕ) (known : goodMeasure m ≡
 -- ---- the query's features in the set
 
 pub filled-facts : (r : FeatureSet) (f : List ℕ) → r ≡ filled f → length f ≤ mostFeatures
-    → (r .len ≡ length f) × (take (r .len) (r .items) ≡ f) × (length (r .items) ≡ 66)
+    → (r .len ≡ length f) × (take (r .len) (r .items) ≡ f) × (length (r .items) ≡ mostFeatures)
 filled-facts r f e h =
     let n : r .len ≡ length f = ap (λ (s : FeatureSet). s .len) e in
     let i : r .items ≡ f ++ replicate (mostFeatures - length f) 0 = ap (λ (s : FeatureSet). s .items) e in (
       n,
       ap₂ (λ (k : ℕ) (l : List ℕ). take k l) n i ∙ take-append-seam f (replicate (mostFeatures - length f) 0),
-      ap length i ∙ length-append f (replicate (mostFeatures - length f) 0) ∙ (let z = length-replicate {A = ℕ} (mostFeatures - length f) 0 in let q : length f + length {A = ℕ} (replicate (mostFeatures - length f) 0) ≡ 66 = omega arith in q),
+      ap length i ∙ length-append f (replicate (mostFeatures - length f) 0) ∙ (let z = length-replicate {A = ℕ} (mostFeatures - length f) 0 in let q : length f + length {A = ℕ} (replicate (mostFeatures - length f) 0) ≡ mostFeatures = omega arith in q),
     )
 
 -- sorted in front, it is the set of the sorted features

@@ -5,6 +5,7 @@ pub mod Order
 pub mod Size
 pub mod EmptySignatures
 pub mod Answering
+pub mod Largest
 pub mod Upward
 pub mod Leasts
 pub mod Total

@@ -13,8 +13,9 @@ use Rattle.index.specs.Good.{Good, mostNames}
 use Rattle.candidates.specs.Spending.{Spending}
 use Rattle.candidates.proofs.Spending.{spend-within, spent-most, spend-more, spend-both}
 use Rattle.sizes.specs.Method.{sizesEnd}
-use Rattle.sizes.specs.Tables.{Reachable, Sized, Asked, touchesBy, answersTable, Covered}
+use Rattle.sizes.specs.Tables.{sizesBelow, Reachable, Sized, Asked, touchesBy, answersTable, Covered}
 use Rattle.sizes.proofs.Answering.{answers-next, answers-none}
+use Rattle.sizes.proofs.Largest.{touches-below, answers-below}
 
 -- what the sizes below y came to: their touches, within the allowance, and their answers
 pub record Passed (w leasts f : List ℕ) (allowance y : ℕ) (answers : List ℕ) (touches : ℕ) : Type 0 where
@@ -26,13 +27,13 @@ module _ {w leasts f : List ℕ} {allowance : ℕ} where
   unfolding sumBelow
   passed-none e = record { spent = spend-within 0 allowance 0 refl (omega arith); table = e ∙ answers-none w leasts f }
 
-  pub passed-all : {y : ℕ} {answers : List ℕ} {touches : ℕ} → Passed w leasts f allowance y answers touches → y ≡ sizesEnd
+  pub passed-all : {y : ℕ} {answers : List ℕ} {touches : ℕ} → Passed w leasts f allowance y answers touches → Good w → y ≡ sizesBelow w
       → Covered w leasts f allowance answers false touches
-  passed-all b e =
+  passed-all {y} {answers} {touches} b good e =
       let c = rw e at b in
       record {
-        spent = c .spent;
-        answers = λ z. c .table;
+        spent = subst (λ (n : ℕ). Spending n allowance false touches) (touches-below w good leasts f) (c .spent);
+        answers = λ z. c .table ∙ answers-below w good leasts f;
         none = λ z. absurd (true≢false (sym z));
         stopped = λ z. absurd (true≢false (sym z));
       }

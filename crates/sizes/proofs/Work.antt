@@ -1,4 +1,4 @@
--- What a search costs, at most: S + C·(t − 1) a size, x times the names of the size, 16,896 in all; and S is the least that
+-- What a search costs, at most: S + C·(t − 1) a size, x times the names of the size, 51,712 in all; and S is the least that
 -- x − t + 1 features can have. Restated in `statements`.
 -- Assumes nothing.
 use mathlib.Core.Path.{_≡_, refl, sym, ap, ap₂, _∙_}
@@ -247,7 +247,7 @@ module _ (w : List ℕ) (good : Good w) (m p q : ℕ) (known : goodMeasure m ≡
       let c = mul-le-mul-left (length query) (names-all w sizesEnd) in
       omega arith
 
-  -- and so at most 16,896
+  -- and so at most 51,712
   pub touches-most : length query ≤ mostFeatures → touchesOf w m p q query ≤ mostPostings
   touches-most h =
       let a = touches-all in

@@ -5,16 +5,16 @@
 use mathlib.Core.Path.{_≡_}
 use mathlib.Core.Bool.{Bool, true, false, cond, _&&_}
 use mathlib.Core.List.{List}
-use Prim.Native.Nat.{ℕ, _+_, _*_, _≤_, _<_}
+use Prim.Native.Nat.{ℕ, _+_, _-_, _*_, _≤_, _<_}
 use lib.ListN.{length, getD}
-use lib.Dec.{leb, ltb}
+use lib.Dec.{eqb, leb, ltb}
 use Rattle.laws.specs.Lists.{Ascending, tabulate}
 use Rattle.laws.specs.Below.{sumBelow, countBelow}
 use Rattle.laws.specs.Each.{Each}
 use Rattle.names.specs.Features.{mostFeatures}
 use Rattle.likeness.specs.Sizes.{isSearched}
 use Rattle.likeness.specs.Least.{leastCount}
-use Rattle.words.specs.Words.{nameCount, nameId, nameSize, featureSpan}
+use Rattle.words.specs.Words.{nameCount, rowCount, nameId, nameSize, rowSize, featureSpan}
 use Rattle.index.specs.Good.{mostNames, idsIn}
 use Rattle.lists.specs.Lists.{spanIn, listIn}
 use Rattle.candidates.specs.Method.{remains, laterCount}
@@ -27,6 +27,10 @@ use Rattle.sizes.specs.Method.{namesOf, listsFor, touchesAt, sharedWith,
 -- 1 where a name has the size, 0 where none has
 unfoldable pub presentAt : List ℕ → ℕ → ℕ
 presentAt w y = cond (leb 1 (namesOf w y)) 1 0
+
+-- no name has this size or a larger one: the last row's and one, as rows ascend by size
+unfoldable pub sizesBelow : List ℕ → ℕ
+sizesBelow w = cond (eqb (rowCount w) 0) 0 (rowSize w (rowCount w - 1) + 1)
 
 -- ---- the least counts
 

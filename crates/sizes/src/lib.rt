@@ -13,12 +13,24 @@ ghost use Rattle.laws.specs.Sort.{sortOf};
 ghost use Rattle.names.specs.Features.{mostFeatures};
 ghost use Rattle.index.specs.Good.{Good, mostNames, idsIn};
 ghost use Rattle.sizes.specs.Method.{sizesEnd};
-ghost use Rattle.sizes.specs.Tables.{presentAt, leastsOf, Reachable, startOf, smallKey, filledOf, Asked, Lent, Sized, Covered};
+ghost use Rattle.sizes.specs.Tables.{sizesBelow, presentAt, leastsOf, Reachable, startOf, smallKey, filledOf, Asked, Lent, Sized, Covered};
 use candidates::Spent;
 use names::FeatureSet;
 
 // The sizes of names are below this.
 pub const SIZES_END: usize = FeatureSet::CAPACITY + 1;
+
+// Every name's size is below this: the last row's and one, as rows ascend by size.
+fn sizes_below(words: &[u32]) -> usize
+    requires { ⌜ Good (now words) ⌝ }
+    ensures { λ r. ⌜ (r ≡ sizesBelow (now (words .entry))) × (r ≤ sizesEnd) ⌝ }
+{
+    let rows = words::row_count(words);
+    if rows == 0 {
+        return 0;
+    }
+    words::row_size(words, rows - 1) as usize + 1
+}
 
 // Which sizes the names have: 1 at each of them.
 fn sizes_present(words: &[u32]) -> [u32; SIZES_END]
@@ -57,9 +69,10 @@ pub fn least_counts(words: &[u32], measure: u8, p: u16, q: u16, x: u8) -> [u32; 
     ensures { λ r. ⌜ r ≡ leastsOf (now (words .entry)) measure p q x ⌝ }
 {
     let present = sizes_present(words);
+    let end = sizes_below(words);
     let mut leasts = [0u32; SIZES_END];
     let mut y = 0;
-    while y < SIZES_END {
+    while y < end {
         leasts[y] = least_of(present[y], measure, p, q, x, y as u8);
         y += 1;
     }
@@ -185,9 +198,10 @@ fn each_size(
     requires { ⌜ Lent (now features) (now starts) (now keys) (now spare) (now counts) (now met) ⌝ }
     ensures { λ r. ⌜ Covered (now (words .entry)) (now (leasts .entry)) (now (features .entry)) allowance (now (answers .exit)) (r .past) (r .touches) ⌝ }
 {
+    let end = sizes_below(words);
     let mut touches = 0;
     let mut y = 0;
-    while y < leasts.len() {
+    while y < end {
         let least = leasts[y] as usize;
         let spent = one_size(
             words,

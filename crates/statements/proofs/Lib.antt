@@ -12,3 +12,4 @@ pub mod LogFrames
 pub mod Leaflet
 pub mod Registers
 pub mod Live
+pub mod Limits

@@ -261,7 +261,7 @@ pub record Demand3 {A : Type 0} (s : Lending A) (a : Question A) : Type 0 where
       × (postingsAt a y + candidatesAt a y * (leastAt a y - 1) ≤ length (featuresOf (a .query)) * namesOf (a .words) y)
   pub no-size : (y : ℕ) → isSearched (a .measure) (a .p) (a .q) (length (featuresOf (a .query))) y ≡ false
       → touchesOfSize (a .words) (a .measure) (a .p) (a .q) (featuresOf (a .query)) y ≡ 0
-  -- all sizes together at most x times the names, and at most 16,896
+  -- all sizes together at most x times the names, and at most 51,712
   pub in-all : steps a ≤ length (featuresOf (a .query)) * nameCount (a .words)
   pub most : steps a ≤ mostPostings
   -- S is the smallest total of any x − t + 1 of the query's features

@@ -82,7 +82,7 @@ alike m p q x y s n = record { is = cond (isSimilar m p q x y s) 1 0; should = n
 abbrev pub least : ℕ → ℕ → ℕ → ℕ → ℕ → ℕ → Figure
 least m p q x y n = record { is = leastCount m p q x y; should = n }
 
--- exactly the sizes from low to high are searched for a query of x features: how many sizes, of all up to 66, are judged otherwise
+-- exactly the sizes from low to high are searched for a query of x features: how many sizes, of all up to the largest, are judged otherwise
 abbrev pub searchedFrom : ℕ → ℕ → ℕ → ℕ → ℕ → ℕ → Figure
 searchedFrom m p q x low high =
     record {

@@ -5,3 +5,4 @@ pub mod Former
 pub mod LogFrames
 pub mod Leaflet
 pub mod Live
+pub mod Limits

@@ -81,7 +81,7 @@ module _ {w : List ℕ} {id place : ℕ} {fs : List ℕ} (a : Addable w id place
       let n = length-rows w in
       ap (λ (l : List Row). length (listsOf l)) (sym (take-all (rowCount w) (allRowsIn w) (omega arith))) ∙ sym (lists-all w (a .good) wide (rowCount w) refl)
 
-  -- every place is below a hundred thousand
+  -- every place fits 32 bits
   pub total-small : total w ≤ nameStart mostNames + (rowWidth + 1) * mostPostings
   total-small =
       let n = good-names-most w (a .good) in

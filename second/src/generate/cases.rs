@@ -4,7 +4,7 @@ use crate::build::{build as build_words, words_of_names, Registered};
 use crate::frames::{self, line_of, IMPORT_KINDS, KINDS};
 use crate::generate::{lines, names, queries, registers, words};
 use crate::index::cut;
-use crate::limits::{INDEX_WORDS, INPUT, NAMES};
+use crate::limits::{INDEX_WORDS, INPUT, LEAST_SIZE, MOST_SIZE, NAMES};
 use crate::measures::{least_count, Measure, Threshold};
 use crate::protocol::{pairs, spaced};
 use crate::random::Random;
@@ -186,7 +186,7 @@ pub fn features(random: &mut Random) -> String {
     let name = match random.below(5) {
         0 => names::bad(random),
         1 => {
-            let length = random.pick(&[1, 2, 3, 62, 63, 64, 65, 66, 255]);
+            let length = random.pick(&[1, 2, 3, 63, 64, 65, 66, 199, 200, 201, 202, 255]);
             names::of_length(random, length)
         }
         _ => names::fresh(random),
@@ -197,9 +197,10 @@ pub fn features(random: &mut Random) -> String {
 /// A measure, a threshold, two sizes and a shared count near the least count.
 pub fn likeness(random: &mut Random) -> String {
     let number = if random.once_in(12) { random.pick(&[0, 5, 255, u32::MAX]) } else { random.between(1, 4) as u32 };
-    let edge = random.pick(&[3, 66]);
-    let (x, near) = (random.between(3, 66) as u32, random.between(1, 66) as u32);
-    let y = random.pick(&[near.max(3), x, (x + 1).min(66), edge]);
+    let most = random.pick(&[66, MOST_SIZE]) as usize;
+    let edge = random.pick(&[LEAST_SIZE, most as u32]);
+    let (x, near) = (random.between(3, most) as u32, random.between(1, most) as u32);
+    let y = random.pick(&[near.max(LEAST_SIZE), x, (x + 1).min(MOST_SIZE), edge]);
     let (mut p, mut q) = queries::any_threshold(random);
     if let (Ok(measure), true) = (Measure::of(number), random.once_in(2)) {
         let c = random.between(1, x.min(y) as usize) as u32;
@@ -209,7 +210,7 @@ pub fn likeness(random: &mut Random) -> String {
         (Ok(measure), Ok(threshold)) => least_count(measure, threshold, x, y),
         _ => 3,
     };
-    let any = random.between(0, 66) as u32;
+    let any = random.between(0, MOST_SIZE as usize) as u32;
     let c = random.pick(&[least, least.saturating_sub(1), least + 1, any]);
     spaced(&[number, p, q, x, y, c])
 }
@@ -250,6 +251,7 @@ pub fn build(random: &mut Random) -> String {
             registers::crowded(random, count)
         }
         1 => registers::middling(random),
+        2 if random.once_in(2) => registers::brimming(random),
         _ => registers::small(random),
     };
     let total = words_of_names(&register).len();
@@ -314,7 +316,7 @@ pub fn import_frames(random: &mut Random) -> String {
 fn frames_of(random: &mut Random, kinds: &[u8], readers: &[u8]) -> String {
     let kind = random.pick(kinds);
     let length = match random.below(4) {
-        0 => random.pick(&[0, 1, 63, 64, 65, 66, 254, 255]),
+        0 => random.pick(&[0, 1, 63, 64, 65, 66, 199, 200, 201, 202, 254, 255]),
         _ => random.below(20),
     };
     let mut name = names::of_length(random, length);

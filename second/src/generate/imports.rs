@@ -182,7 +182,7 @@ fn odd_settings(random: &mut Random) -> Vec<u8> {
         0 => return first,
         8 => Vec::new(),
         1 => with_name(&names::fresh(random)),
-        2 => with_name(&random.pick(&[vec![0], vec![b'A'; 65], vec![b'A'; FRAME_NAME]])),
+        2 => with_name(&random.pick(&[vec![0], vec![b'A'; 201], vec![b'A'; FRAME_NAME]])),
         3 => [&settings[..], &settings].concat(),
         4 => random.pick(&[&b"51\n"[..], b"51", b"5\n", b"510\n", b"51\r\n"]).to_vec(),
         5 => [&b"\n"[..], &settings].concat(),
@@ -266,7 +266,7 @@ fn longest(random: &mut Random) -> Vec<u8> {
     [first, settings, log].concat()
 }
 
-/// Up to 256 names of 63 and 64 bytes: an index near the largest there is.
+/// Up to 256 names of 199 and 200 bytes: an index near the largest there is.
 fn wide(random: &mut Random) -> Vec<u8> {
     let count = random.between(NAMES - 6, NAMES);
     let register = registers::wide(random, count);

@@ -1,5 +1,5 @@
 //! Inputs for comparisons, whole and damaged, one for each number under a seed. The kinds are those of `protocol`.
-//! What is rare in life (a name of 64 bytes, an allowance one below the count) is common here.
+//! What is rare in life (a name of 200 bytes, an allowance one below the count) is common here.
 
 mod cases;
 mod imports;

@@ -44,7 +44,7 @@ pub fn of_length(random: &mut Random, length: usize) -> Vec<u8> {
     (0..length).map(|_| random.pick(&letters)).collect()
 }
 
-/// Words in a row, at most 64 bytes of them.
+/// Words in a row, at most [`NAME_BYTES`] of them.
 fn of_words(random: &mut Random) -> Vec<u8> {
     let words: Vec<&str> = (0..random.between(1, 3)).map(|_| random.pick(&WORDS)).collect();
     let mut name = words.join(random.pick(&["", " ", "-"])).into_bytes();
@@ -61,7 +61,7 @@ pub fn fresh(random: &mut Random) -> Vec<u8> {
             of_length(random, length)
         }
         8 => {
-            let length = random.pick(&[1, 1, 2, 3, 63, 64, 64]);
+            let length = random.pick(&[1, 1, 2, 3, 63, 64, 65, 66, NAME_BYTES - 1, NAME_BYTES, NAME_BYTES]);
             of_length(random, length)
         }
         _ => {
@@ -83,7 +83,7 @@ pub fn short(random: &mut Random) -> Vec<u8> {
     of_length(random, length)
 }
 
-/// A name with one to three edits, still 1 to 64 bytes and without a control character.
+/// A name with one to three edits, still of a length that passes and without a control character.
 pub fn like(random: &mut Random, name: &[u8]) -> Vec<u8> {
     let mut other = name.to_vec();
     for _ in 0..random.between(1, 3) {
@@ -120,7 +120,7 @@ pub fn bad(random: &mut Random) -> Vec<u8> {
     match random.below(10) {
         0 => Vec::new(),
         1 | 2 => {
-            let length = random.pick(&[65, 65, 66, 67, 128, 254, 255]);
+            let length = random.pick(&[NAME_BYTES + 1, NAME_BYTES + 1, NAME_BYTES + 2, NAME_BYTES + 3, 254, 255]);
             of_length(random, length)
         }
         3 | 4 => {
@@ -130,7 +130,7 @@ pub fn bad(random: &mut Random) -> Vec<u8> {
             name
         }
         5 => {
-            let mut name = of_length(random, 65);
+            let mut name = of_length(random, NAME_BYTES + 1);
             let at = random.below(name.len());
             name[at] = random.pick(&[0, 9, 127]);
             name

@@ -71,10 +71,11 @@ pub fn crowded(random: &mut Random, count: usize) -> Vec<Registered> {
     register
 }
 
-/// A register whose index takes exactly `total` words, which is at least 11,107: one name of each length,
+/// A register whose index takes exactly `total` words, which is at least 11,107: one name of each length up to 64,
 /// then names equal to one of those, each of which takes one word and as many postings as its size.
 pub fn filling(random: &mut Random, total: usize) -> Vec<Registered> {
-    let mut names: Vec<Vec<u8>> = (1..=NAME_BYTES).map(|length| names::of_length(random, length)).collect();
+    const EACH: usize = 64;
+    let mut names: Vec<Vec<u8>> = (1..=EACH).map(|length| names::of_length(random, length)).collect();
     let with_ids = |names: &[Vec<u8>], ids: &[u32]| -> Vec<Registered> {
         names.iter().zip(ids).map(|(name, id)| Registered { id: *id, name: name.clone() }).collect()
     };
@@ -82,7 +83,7 @@ pub fn filling(random: &mut Random, total: usize) -> Vec<Registered> {
     let mut left = total - words_of_names(&with_ids(&names, &ids)).len();
     while left > 0 {
         // A name of n bytes takes n+3 words. Leave nothing, or enough for one more.
-        let most = left.min(NAME_BYTES + 3);
+        let most = left.min(EACH + 3);
         let takes = if left == most || left - most >= 4 { most } else { most - 4 };
         names.push(names[takes - 4].clone());
         left -= takes;
@@ -90,7 +91,7 @@ pub fn filling(random: &mut Random, total: usize) -> Vec<Registered> {
     with_ids(&names, &ids)
 }
 
-/// A register of names of 63 and 64 bytes that share next to nothing, so that nearly each feature has a row of its own.
+/// A register of names of 199 and 200 bytes that share next to nothing, so that nearly each feature has a row of its own.
 pub fn wide(random: &mut Random, count: usize) -> Vec<Registered> {
     let letters: Vec<u8> = (0..=255).filter(|byte| !control(*byte)).collect();
     let name = |random: &mut Random| {
@@ -99,6 +100,16 @@ pub fn wide(random: &mut Random, count: usize) -> Vec<Registered> {
     };
     let ids = ids(random, count);
     ids.into_iter().map(|id| Registered { id, name: name(random) }).collect()
+}
+
+/// A register of 256 names, starts of one long name, with 16,896, 16,897 or 51,712 postings: the most while a name had at
+/// most 64 bytes, one more, and the most.
+pub fn brimming(random: &mut Random) -> Vec<Registered> {
+    let (each, last) = random.pick(&[(64, 64), (64, 65), (NAME_BYTES, NAME_BYTES)]);
+    let long = names::of_length(random, NAME_BYTES);
+    let ids = ids(random, NAMES);
+    let length = |at: usize| if at + 1 == NAMES { last } else { each };
+    ids.into_iter().enumerate().map(|(at, id)| Registered { id, name: long[..length(at)].to_vec() }).collect()
 }
 
 /// The line of a registered name. An id beyond two bytes keeps its low ones; the caller wants it damaged anyway.

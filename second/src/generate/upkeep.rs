@@ -117,7 +117,7 @@ fn name(random: &mut Random, known: &[Vec<u8>]) -> Vec<u8> {
     match random.below(20) {
         0..=3 => names::bad(random),
         4 => {
-            let length = random.pick(&[1, 1, 2, 63, 64, 65, 255]);
+            let length = random.pick(&[1, 1, 2, 63, 64, 65, 199, 200, 201, 255]);
             names::of_length(random, length)
         }
         5..=8 if !known.is_empty() => random.pick(known),

@@ -79,6 +79,7 @@ fn former(random: &mut Random, known: &[u8]) -> Vec<u32> {
 /// A good index, of a register, of names that a register may no longer have, or made up, with no word beyond its total.
 pub fn whole(random: &mut Random, known: &[u8]) -> Vec<u32> {
     match random.below(40) {
+        0 if random.once_in(8) => words_of_names(&registers::brimming(random)),
         0 => words_of_names(&registers::middling(random)),
         1 => {
             let count = random.between(NAMES - 1, NAMES);
@@ -96,6 +97,7 @@ pub fn whole(random: &mut Random, known: &[u8]) -> Vec<u32> {
                 vec![near],
                 vec![near, (near + 1).min(MOST_SIZE), (near - 1).max(LEAST_SIZE)],
                 vec![MOST_SIZE, 3],
+                vec![66, 67, 3],
             ]);
             let count = random.between(0, 6);
             words_of(&made_up(random, count, &sizes, &known))
@@ -150,7 +152,7 @@ pub fn swept(random: &mut Random, at: u64) -> Vec<u32> {
 pub type Damage = (&'static str, fn(&mut Random, &[u32]) -> Vec<u32>);
 
 /// Every way to damage an index. Few of them leave it good now and then; a comparison holds either way.
-pub const DAMAGES: [Damage; 22] = [
+pub const DAMAGES: [Damage; 23] = [
     ("a word changed", word_changed),
     ("a word changed", word_changed),
     ("a word changed", word_changed),
@@ -172,6 +174,7 @@ pub const DAMAGES: [Damage; 22] = [
     ("two names swapped", |random, words| on_plan(words, |plan| swap(random, &mut plan.names))),
     ("an id past 65,535", id_past),
     ("a size past its limits", size_past),
+    ("a 51,713th posting", posting_past),
     ("a 257th name", name_too_many),
 ];
 
@@ -211,7 +214,7 @@ fn word_changed(random: &mut Random, words: &[u32]) -> Vec<u32> {
     words[at] = match random.below(9) {
         0 | 1 => word.wrapping_add(1),
         2 | 3 => word.wrapping_sub(1),
-        4 => random.pick(&[0, 1, 2, 67, 255, 256, 65_536, u32::MAX]),
+        4 => random.pick(&[0, 1, 2, MOST_SIZE + 1, 255, 256, 65_536, u32::MAX]),
         5 => word.wrapping_add(256),
         6 => word ^ (1 << random.below(32)),
         7 => random.pick(&words),
@@ -274,7 +277,7 @@ fn row_resized(random: &mut Random, words: &[u32]) -> Vec<u32> {
     on_plan(words, |plan| {
         if !plan.rows.is_empty() {
             let at = random.below(plan.rows.len());
-            plan.rows[at].0 = random.pick(&[plan.rows[at].0 + 1, 3, 66, 67]);
+            plan.rows[at].0 = random.pick(&[plan.rows[at].0 + 1, LEAST_SIZE, MOST_SIZE, MOST_SIZE + 1]);
             plan.rows.sort();
         }
     })
@@ -337,7 +340,7 @@ fn name_gone(random: &mut Random, words: &[u32]) -> Vec<u32> {
 fn name_more(random: &mut Random, words: &[u32]) -> Vec<u32> {
     on_plan(words, |plan| {
         let last = plan.names.last().map_or(0, |name| name.0);
-        plan.names.push((last + 1, random.pick(&[3, 6, 66])));
+        plan.names.push((last + 1, random.pick(&[3, 6, 66, MOST_SIZE])));
     })
 }
 
@@ -353,11 +356,22 @@ fn id_past(random: &mut Random, words: &[u32]) -> Vec<u32> {
     })
 }
 
-/// An index in which everything is right but that a name has 1, 2, 67 or 255 features.
+/// An index in which everything is right but that a name has 1, 2, 203 or 255 features.
 fn size_past(random: &mut Random, _: &[u32]) -> Vec<u32> {
-    let size = random.pick(&[1, 2, 67, 67, 255]);
+    let size = random.pick(&[1, 2, MOST_SIZE + 1, MOST_SIZE + 1, 255]);
     let count = random.between(1, 3);
     words_of(&made_up(random, count, &[size, 3], &[]))
+}
+
+/// An index in which everything is right but that one of 256 names has 203 features, and so there are 51,713 postings: now
+/// and then, as it is large.
+fn posting_past(random: &mut Random, words: &[u32]) -> Vec<u32> {
+    if !random.once_in(8) {
+        return size_past(random, words);
+    }
+    let names: Vec<(u32, Vec<u32>)> =
+        registers::ids(random, NAMES).into_iter().zip(0..).map(|(id, at)| (id, (0..MOST_SIZE + u32::from(at == 9)).collect())).collect();
+    words_of(&names)
 }
 
 /// An index in which everything is right but that it has 257 names.

@@ -34,7 +34,7 @@ pub fn register(names: &[&str]) -> Vec<u8> {
 
 /// The index words of names under ids 10, 11, ..
 pub fn index(names: &[&str]) -> Vec<u32> {
-    let mut words = vec![0; 20_000];
+    let mut words = vec![0; 60_000];
     let built = build(&register(names), &mut words);
     assert_eq!((built.number, built.line), (0, 0));
     words

@@ -1,4 +1,4 @@
--- `add_name` meets its contract: a good name has at most 66 features, and each fits 32 bits.
+-- `add_name` meets its contract: a good name has at most as many features as the set has places, and each fits 32 bits.
 use mathlib.Core.Path.{_≡_, refl, sym, ap, ap₂, _∙_}
 use mathlib.Core.List.{List, _++_, map}
 use Prim.Native.Nat.{ℕ, _+_, _*_, _≤_, _<_, _-_}

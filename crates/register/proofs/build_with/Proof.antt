@@ -22,7 +22,7 @@ tables : (c : tie.Else1)
 tables c =
     let x = c .before .before .before .before .before .before .before .take-lines in
     let b = c .before .before .before .before .before .before .before .before .before .before .before .before .before .before .before .before .before in
-    held (x .ensures .tables (c .if1 .left)) (b .args .ordered .now) (x .kept .1 .1 .0 ∙ b .pre .1) (x .kept .1 .1 .1 .0 ∙ b .pre .2) (b .pre .3)
+    held (x .ensures .tables (c .if1 .left)) (b .args .ordered .now) (x .kept .1 .1 .0 ∙ b .pre .1) (b .pre .3 ∙ sym (x .kept .1 .1 .1 .0))
 
 -- the names, the keys and the room for them in order have the lengths that are asked for
 names-part : (c : tie.Else1) → let x = c .before .before .before .before .before .before .before .take-lines in length (take (x .result .names) (x .last .1 .1 .0)) ≡ x .result .names

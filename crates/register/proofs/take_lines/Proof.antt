@@ -9,7 +9,7 @@ use lib.ListN.{length, set}
 use lib.Seq.{length-take-le, paste}
 use Rattle.names.specs.Names.{judgeOf}
 use Rattle.names.specs.Features.{featuresOf}
-use Rattle.index.specs.Good.{mostNames, mostPostings}
+use Rattle.index.specs.Good.{mostNames}
 use Rattle.index_writer.specs.Keys.{placeSpan}
 use Rattle.lines.proofs.Lines.{line-ends}
 use Rattle.register.proofs.Taking.{Reached, Turn, reached-nil, reached-all, turn-less, turn-few, turn-bad, turn-name, turn-id, turn-room, turn-more}
@@ -18,7 +18,7 @@ use Rattle.register.proofs.take_lines.Tie as tie
 
 abbrev Inv-loop : tie.InvT-loop
 Inv-loop register name₀ names₀ keys₀ n₀ p₀ next₀ at₀ name names keys n p next at =
-    (length name ≡ 255) × (length names ≡ mostNames) × (length keys ≡ mostPostings) × Reached register names keys n p next at
+    (length name ≡ 255) × (length names ≡ mostNames) × (length keys ≡ length keys₀) × Reached register names keys n p next at
 
 abbrev μ-loop : tie.MeasureT-loop
 μ-loop register name₀ names₀ keys₀ n₀ p₀ next₀ at₀ name names keys n p next at = length register - at
@@ -32,7 +32,7 @@ turn c =
     record { reach = l .inv .3; more = omega arith; stretch = e .0; bound = e .1; judged = c .judge-line .ensures .number }
 
 loop-holds : tie.Need-loop-holds Inv-loop μ-loop
-loop-holds c = let b = c .before .before .before .before in (b .pre .0, b .pre .1, b .pre .2, reached-nil (b .args .register .now) (b .args .names .now) (b .args .keys .now))
+loop-holds c = let b = c .before .before .before .before in (b .pre .0, b .pre .1, refl, reached-nil (b .args .register .now) (b .args .names .now) (b .args .keys .now))
 
 line-end-requires : tie.Need-line-end-requires Inv-loop μ-loop
 line-end-requires c κs = search needs
@@ -67,7 +67,7 @@ same-length-2 : tie.Need-same-length-2 Inv-loop μ-loop
 same-length-2 c = c .before .before .before .before .before .before .before .before .before .loop .inv .1 ∙ sym (c .before .before .before .before .before .before .before .before .before .before .before .before .before .before .pre .1)
 
 same-length-3 : tie.Need-same-length-3 Inv-loop μ-loop
-same-length-3 c = c .before .before .before .before .before .before .before .before .before .loop .inv .2 ∙ sym (c .before .before .before .before .before .before .before .before .before .before .before .before .before .before .pre .2)
+same-length-3 c = c .before .before .before .before .before .before .before .before .before .loop .inv .2
 
 returns : tie.Need-returns Inv-loop μ-loop
 returns c = let l = c .before .before .before .before .before .before .before .before .before .loop in turn-bad (turn (c .before .before .before .before)) (c .if1 .taken) (l .names) (l .keys)
@@ -85,7 +85,7 @@ add-name-requires c κs =
     let t = turn (c .before .before .before .before .before .before .before) in
     let z = c .before .before .before .if1 .left in
     let b = c .before .before .before .before .before .before .before .before .before .before .before .before .before .before .before .before .before in
-    let room = turn-room t z in
+    let room = turn-room t z (length (b .args .keys .now)) (b .pre .2) in
     let small = room .0 in
     let wide = room .1 in
     let i = h .id z in
@@ -116,7 +116,7 @@ loop-again c =
     let t = turn (c .before .before .before .before .before .before .before .before .before .before .before .before) in
     let z = c .before .before .before .before .before .before .before .before .if1 .left in
     let b = c .before .before .before .before .before .before .before .before .before .before .before .before .before .before .before .before .before .before .before .before .before .before in
-    let room = turn-room t z in
+    let room = turn-room t z (length (b .args .keys .now)) (b .pre .2) in
     let small = room .0 in
     let wide = room .1 in
     let ln = l .inv .1 in
@@ -139,7 +139,7 @@ same-length-5 : tie.Need-same-length-5 Inv-loop μ-loop
 same-length-5 c = c .before .loop .inv .1 ∙ sym (c .before .before .before .before .before .before .pre .1)
 
 same-length-6 : tie.Need-same-length-6 Inv-loop μ-loop
-same-length-6 c = c .before .loop .inv .2 ∙ sym (c .before .before .before .before .before .before .pre .2)
+same-length-6 c = c .before .loop .inv .2
 
 returns-2 : tie.Need-returns-2 Inv-loop μ-loop
 returns-2 c = reached-all (c .before .loop .inv .3) (omega arith)

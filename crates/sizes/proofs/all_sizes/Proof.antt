@@ -4,6 +4,7 @@ use Prim.Native.Nat.{ℕ}
 use borrow.Author.Needs.{needs}
 use lib.ListN.{length, take, replicate, length-replicate}
 use lib.Seq.{length-take-le}
+use Rattle.names.specs.Features.{mostFeatures}
 use Rattle.index.specs.Good.{mostNames}
 use Rattle.candidates.proofs.Counts.{zeros}
 use Rattle.sizes.proofs.all_sizes.Statement.{statement}
@@ -13,8 +14,8 @@ abbrev start : tie.After-keys → tie.Start
 start c = c .before .before .before .before .before .before .before
 
 -- what is cut out of a table is as long as the features
-cut : (c : tie.After-keys) → let x = length (start c .args .features .now) in length (take x (replicate {A = ℕ} 66 0)) ≡ x
-cut c = length-take-le {A = ℕ} (length (start c .args .features .now)) (replicate 66 0) (start c .pre .2 .few)
+cut : (c : tie.After-keys) → let x = length (start c .args .features .now) in length (take x (replicate {A = ℕ} mostFeatures 0)) ≡ x
+cut c = length-take-le {A = ℕ} (length (start c .args .features .now)) (replicate mostFeatures 0) (start c .pre .2 .few)
 
 slice-aggregate-each-size : tie.Need-slice-aggregate-each-size
 slice-aggregate-each-size c = search needs

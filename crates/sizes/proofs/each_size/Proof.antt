@@ -6,22 +6,26 @@ use borrow.Author.Needs.{needs}
 use lib.ListN.{length}
 use Rattle.index.specs.Good.{mostNames}
 use Rattle.sizes.specs.Method.{sizesEnd}
-use Rattle.sizes.specs.Tables.{Lent}
+use Rattle.sizes.specs.Tables.{sizesBelow, Lent}
 use Rattle.sizes.proofs.Answering.{length-answers}
 use Rattle.sizes.proofs.Upward.{Passed, passed-none, passed-all, passed-within, passed-next, passed-over}
 use Rattle.sizes.proofs.each_size.Statement.{statement}
 use Rattle.sizes.proofs.each_size.Tie as tie
 
 abbrev Inv-loop : tie.InvT-loop
-Inv-loop words ids features leasts allowance starts₀ keys₀ spare₀ counts₀ met₀ answers₀ touches₀ y₀ starts keys spare counts met answers touches y =
-    (y ≤ sizesEnd) × Passed words leasts features allowance y answers touches × Lent features starts keys spare counts met
+Inv-loop words ids features leasts allowance starts₀ keys₀ spare₀ counts₀ met₀ answers₀ end touches₀ y₀ starts keys spare counts met answers touches y =
+    (y ≤ end) × Passed words leasts features allowance y answers touches × Lent features starts keys spare counts met
 
 abbrev μ-loop : tie.MeasureT-loop
-μ-loop words ids features leasts allowance starts₀ keys₀ spare₀ counts₀ met₀ answers₀ touches₀ y₀ starts keys spare counts met answers touches y = sizesEnd - y
+μ-loop words ids features leasts allowance starts₀ keys₀ spare₀ counts₀ met₀ answers₀ end touches₀ y₀ starts keys spare counts met answers touches y = end - y
 
 -- the function's entry as seen from the loop, and the turn's beginning and the size as seen from what follows
 abbrev start : tie.At-loop Inv-loop μ-loop → tie.Start Inv-loop μ-loop
-start c = c .before .before .before .before .before .before .before .before .before .before .before
+start c = c .before .before .before .before .before .before .before .before .before .before .before .before
+
+-- where the sizes end
+below : (c : tie.At-loop Inv-loop μ-loop) → (c .before .sizes-below .result ≡ sizesBelow (start c .args .words .now)) × (c .before .sizes-below .result ≤ sizesEnd)
+below c = c .before .sizes-below .ensures
 
 abbrev turn : tie.After-one-size Inv-loop μ-loop → tie.In-loop Inv-loop μ-loop
 turn c = c .before .before .before .before .before .before .before .before
@@ -38,11 +42,14 @@ sized c = c .before .before .before .before .before .before .before .before .bef
 wide : (c : tie.At-loop Inv-loop μ-loop) → length (c .loop .answers) ≡ mostNames
 wide c = let a = start c .args in ap length (c .loop .inv .1 .table) ∙ length-answers (a .words .now) (a .leasts .now) (a .features .now) (c .loop .y)
 
+sizes-below-requires : tie.Need-sizes-below-requires Inv-loop μ-loop
+sizes-below-requires c κs = search needs
+
 loop-holds : tie.Need-loop-holds Inv-loop μ-loop
-loop-holds c = let b = c .before .before .before .before .before .before .before .before .before .before in (omega arith, passed-none (b .pre .0 .4), b .pre .1)
+loop-holds c = let b = c .before .before .before .before .before .before .before .before .before .before .before in (omega arith, passed-none (b .pre .0 .4), b .pre .1)
 
 low : (c : tie.In-loop Inv-loop μ-loop) → c .before .loop .y < sizesEnd
-low c = let n = start (c .before) .pre .0 .3 .long in let t = c .loop-test .taken in omega arith
+low c = let b = below (c .before) .1 in let t = c .loop-test .taken in omega arith
 
 mul-least : tie.Need-mul-least Inv-loop μ-loop
 mul-least c = let t = low c in omega arith
@@ -147,9 +154,10 @@ same-length-12 c = let w = wide (c .before) in let p = ap length (start (c .befo
 
 returns-2 : tie.Need-returns-2 Inv-loop μ-loop
 returns-2 c =
-    let n = start (c .before) .pre .0 .3 .long in
+    let l = c .before in
+    let b = below l .0 in
     let t = c .loop-test .left in
-    passed-all (c .before .loop .inv .1) (omega arith)
+    passed-all (l .loop .inv .1) (start l .pre .0 .0) (let y = l .loop .inv .0 in omega arith)
 
 pub each-size-spec : {M : Type 1} → statement M
 each-size-spec =
@@ -157,6 +165,7 @@ each-size-spec =
     (tie.spec
     Inv-loop
     μ-loop
+    sizes-below-requires
     loop-holds
     mul-least
     shared-slice-read-least

@@ -8,6 +8,7 @@ use Rattle.laws.specs.Lists.{tabulate}
 use Rattle.laws.proofs.Lists.{length-tabulate, tabulate-ext}
 use Rattle.words.specs.Words.{nameCount, nameSize}
 use Rattle.index.proofs.Laws.{good-three, good-within, good-names-most, good-name-within}
+use Rattle.sizes.specs.Method.{sizesEnd}
 use Rattle.sizes.specs.Tables.{presentAt}
 use Rattle.sizes.proofs.Present.{presentBy, present-nil, present-step, present-all}
 use Rattle.sizes.proofs.sizes_present.Statement.{statement}
@@ -15,12 +16,12 @@ use Rattle.sizes.proofs.sizes_present.Tie as tie
 
 abbrev Inv-loop : tie.InvT-loop
 Inv-loop words n table₀ i₀ table i =
-    (n ≡ nameCount words) × (i ≤ n) × (table ≡ tabulate (presentBy words i) 67)
+    (n ≡ nameCount words) × (i ≤ n) × (table ≡ tabulate (presentBy words i) sizesEnd)
 
 abbrev μ-loop : tie.MeasureT-loop
 μ-loop words n table₀ i₀ table i = n - i
 
-within : (c : tie.After-name-size Inv-loop μ-loop) → c .name-size .result < 67
+within : (c : tie.After-name-size Inv-loop μ-loop) → c .name-size .result < sizesEnd
 within c =
     let b = c .before .before .before .before .before in
     let l = c .before .before .loop in
@@ -29,14 +30,14 @@ within c =
     let h = g .2 in
     omega arith
 
-wide : (c : tie.At-loop Inv-loop μ-loop) → length (c .loop .table) ≡ 67
-wide c = ap length (c .loop .inv .2) ∙ length-tabulate (presentBy (c .before .before .before .args .words .now) (c .loop .i)) 67
+wide : (c : tie.At-loop Inv-loop μ-loop) → length (c .loop .table) ≡ sizesEnd
+wide c = ap length (c .loop .inv .2) ∙ length-tabulate (presentBy (c .before .before .before .args .words .now) (c .loop .i)) sizesEnd
 
 name-count-requires : tie.Need-name-count-requires Inv-loop μ-loop
 name-count-requires c κs = good-three _ (c .before .pre)
 
 loop-holds : tie.Need-loop-holds Inv-loop μ-loop
-loop-holds c = (c .name-count .ensures .0, omega arith, present-nil _ 67)
+loop-holds c = (c .name-count .ensures .0, omega arith, present-nil _ sizesEnd)
 
 name-size-requires : tie.Need-name-size-requires Inv-loop μ-loop
 name-size-requires c κs =
@@ -68,14 +69,14 @@ loop-again c =
     let e : s ≡ nameSize (b .args .words .now) (l .i) = c .name-size .ensures in (
       l .inv .0,
       omega arith,
-      ap₂ (λ (t : List ℕ) (x : ℕ). set t x 1) (l .inv .2) e ∙ present-step (b .args .words .now) (l .i) 67 (let w = within c in omega arith),
+      ap₂ (λ (t : List ℕ) (x : ℕ). set t x 1) (l .inv .2) e ∙ present-step (b .args .words .now) (l .i) sizesEnd (let w = within c in omega arith),
     )
 
 returns : tie.Need-returns Inv-loop μ-loop
 returns c =
     let l = c .before .loop in
     let e : l .i ≡ nameCount (c .before .before .before .before .args .words .now) = (let q = l .inv .0 in let r = l .inv .1 in omega arith) in
-    l .inv .2 ∙ tabulate-ext (presentBy (c .before .before .before .before .args .words .now) (l .i)) (presentAt (c .before .before .before .before .args .words .now)) 67 (λ y h. present-all (c .before .before .before .before .args .words .now) (l .i) e y)
+    l .inv .2 ∙ tabulate-ext (presentBy (c .before .before .before .before .args .words .now) (l .i)) (presentAt (c .before .before .before .before .args .words .now)) sizesEnd (λ y h. present-all (c .before .before .before .before .args .words .now) (l .i) e y)
 
 pub sizes-present-spec : {M : Type 1} → statement M
 sizes-present-spec =

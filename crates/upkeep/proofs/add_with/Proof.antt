@@ -39,7 +39,7 @@ many : (c : tie.After-postings-start) → let a = start c .args in filled c .put
 many c = filled c .put-words .ensures .0
 
 small : (c : tie.After-postings-start)
-    → let a = start c .args in let m = filled c .put-words .result in (total (a .words .now) + m ≤ 100000) × (m ≤ mostMoved) × (length (a .features .now) < m)
+    → let a = start c .args in let m = filled c .put-words .result in (total (a .words .now) + m ≤ 4294967295) × (m ≤ mostMoved) × (length (a .features .now) < m)
 small c =
     let s = start c in
     let v = wide (known c) in

@@ -104,13 +104,13 @@ array-borrow-prefix-spare : tie.Need-array-borrow-prefix-spare
 array-borrow-prefix-spare c = let g = c .before .before in within (nameAt g) (g .features-good .ensures)
 
 slice-aggregate-sort-2 : tie.Need-slice-aggregate-sort-2
-slice-aggregate-sort-2 c = let g = c .before .before .before in sym (cut (nameAt g) (g .features-good .ensures) (replicate 66 0) refl)
+slice-aggregate-sort-2 c = let g = c .before .before .before in sym (cut (nameAt g) (g .features-good .ensures) (replicate mostFeatures 0) refl)
 
 sort-requires : tie.Need-sort-requires
 sort-requires c κs =
     let g = c .before .before .before in
     let e = g .features-good .ensures in
-    cut (nameAt g) e (replicate 66 0) refl ∙ sym (cut (nameAt g) e (g .features-good .result .items) (all (nameAt g) e))
+    cut (nameAt g) e (replicate mostFeatures 0) refl ∙ sym (cut (nameAt g) e (g .features-good .result .items) (all (nameAt g) e))
 
 slice-aggregate-narrow : tie.Need-slice-aggregate-narrow
 slice-aggregate-narrow c =

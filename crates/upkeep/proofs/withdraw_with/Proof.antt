@@ -9,6 +9,7 @@ use Rattle.words.specs.Words.{rowWidth, total}
 use Rattle.index.proofs.Laws.{good-three, good-within, good-names-most}
 use Rattle.index_writer.specs.Built.{listsOf}
 use Rattle.index_writer.proofs.Read.{narrow-words}
+use Rattle.upkeep.specs.Adding.{mostMoved}
 use Rattle.upkeep.proofs.Withdrawing.{Stands, cuts, less, kept, cutOut, ids-few, cuts-few, ids-fit, cuts-put, cuts-rise, cuts-below, cut-out, counts-left, settle-asks, name-less}
 use borrow.Author.Needs.{needs}
 use Rattle.upkeep.proofs.withdraw_with.Statement.{statement}
@@ -64,7 +65,7 @@ same c = simp length-set at (c .note-rows .kept .1 .1 .1 .0)
 room : (c : tie.After-note-rows)
     → let r = c .note-rows .result in (r .postings ≤ length (c .note-rows .last .1 .1 .1 .1 .1 .0))
     × (r .rows + r .postings ≤ length (c .note-rows .last .1 .1 .1 .0))
-    × (r .rows + r .postings ≤ 331)
+    × (r .rows + r .postings ≤ mostMoved)
 room c =
     let z = sized c in
     let r = c .note-rows .ensures .1 in
