@@ -152,6 +152,11 @@ struct scene {
     uint8_t log[LINES * (13 + 2 * LONGEST)];
     size_t logged; /* its bytes; 0 where the scene has no log */
     bool changes;  /* names are added and withdrawn */
+    bool at_once;  /* all queries are asked in one call */
+    bool checks;   /* the index is checked, and nothing else */
+    unsigned step; /* so far the ids are apart */
+    uint8_t text[LINES * LONGEST]; /* the queries one after the other, where they are asked in one call */
+    uint32_t ends[LINES];
     uint32_t words[WORDS];
     size_t total;
     uint64_t triples[POSTINGS];
@@ -162,6 +167,7 @@ struct scene {
 
 /* Where searches, builds and imports write. */
 static uint32_t ids[NAMES], shared[NAMES], sizes[NAMES], least[NAMES], built[WORDS];
+static uint32_t outcomes[3][LINES], many[4][LINES * NAMES];
 static uint64_t copies[COPIES][POSTINGS];
 static uint32_t indexes[COPIES][WORDS];
 enum { CASE, VALUE, ID, WEEK, SUM, COUNT, COLUMNS };
@@ -176,13 +182,23 @@ static void ask(struct scene *s, const char *name)
     q->length = strlen(name);
 }
 
+static uint16_t id_of(const struct scene *s, size_t name)
+{
+    return (uint16_t)(name * s->step + 7);
+}
+
+static size_t name_of(const struct scene *s, uint32_t id)
+{
+    return (id - 7) / s->step;
+}
+
 /* Writes the register's lines, builds the index twice, compares, and makes SimString's. */
 static void ready(struct scene *s)
 {
     s->bytes = 0;
     for (size_t at = 0; at < s->names; at++) {
         rushgirdle_write_answer w =
-            rushgirdle_write_name(s->lines + s->bytes, sizeof s->lines - s->bytes, (uint16_t)(at * 251 + 7),
+            rushgirdle_write_name(s->lines + s->bytes, sizeof s->lines - s->bytes, id_of(s, at),
                                   (const uint8_t *)s->name[at], strlen(s->name[at]));
         if (w.number)
             fail("%s: a name cannot be written", s->label);
@@ -260,6 +276,19 @@ static uint64_t proved_search(struct scene *s)
                                  s->total, ids, NAMES, shared, NAMES, sizes, NAMES, least, NAMES).rows;
     }
     return sum;
+}
+
+static rushgirdle_many_answer ask_many(struct scene *s)
+{
+    enum { ROWS = LINES * NAMES };
+    return rushgirdle_search_many(s->text, s->ends[s->queries - 1], s->ends, s->queries, s->measure, s->p, s->q, UINT32_MAX,
+                                  s->words, s->total, outcomes[0], LINES, outcomes[1], LINES, outcomes[2], LINES,
+                                  many[0], ROWS, many[1], ROWS, many[2], ROWS, many[3], ROWS);
+}
+
+static uint64_t proved_many(struct scene *s)
+{
+    return ask_many(s).rows;
 }
 
 static uint64_t twin_by(struct scene *s, bool checked)
@@ -340,7 +369,7 @@ static uint64_t rust_sort(struct scene *s)
 /* Each copy of the index has or lacks another name, in a slice of the whole index's length. */
 static uint16_t changed_id(const struct scene *s, size_t copy)
 {
-    return (uint16_t)(copy * s->names / COPIES * 251 + 7);
+    return id_of(s, copy * s->names / COPIES);
 }
 
 static uint64_t proved_add(struct scene *s)
@@ -396,7 +425,7 @@ static void compare_simstring(struct scene *s, const struct query *q, size_t row
     if (found > NAMES)
         fail("%s, %s: SimString lists %zu names", s->label, q->name, found);
     for (size_t k = 0; k < rows; k++)
-        ours[k] = s->name[(ids[k] - 7) / 251];
+        ours[k] = s->name[name_of(s, ids[k])];
     for (size_t k = 0; k < found; k++)
         theirs[k] = simstring_found(s->simstring, k);
     qsort(ours, rows, sizeof *ours, by_text);
@@ -444,6 +473,33 @@ static void compare(struct scene *s)
     }
 }
 
+/* All queries in one call: each has to have the rows and the touches of a search of its own. */
+static void compare_many(struct scene *s)
+{
+    uint32_t from = 0;
+    size_t bytes = 0;
+    for (size_t at = 0; at < s->queries; at++) {
+        memcpy(s->text + bytes, s->query[at].name, s->query[at].length);
+        s->ends[at] = (uint32_t)(bytes += s->query[at].length);
+    }
+    rushgirdle_many_answer answer = ask_many(s);
+    if (answer.number || answer.queries != s->queries || answer.rows != s->rows)
+        fail("%s: asked at once, %u queries answer %u and have %u rows", s->label, answer.queries, answer.number, answer.rows);
+    for (size_t at = 0; at < s->queries; at++) {
+        const struct query *q = &s->query[at];
+        uint32_t *single[] = { ids, shared, sizes, least };
+        rushgirdle_search_answer found =
+            rushgirdle_search((const uint8_t *)q->name, q->length, s->measure, s->p, s->q, UINT32_MAX, s->words, s->total,
+                              ids, NAMES, shared, NAMES, sizes, NAMES, least, NAMES);
+        if (outcomes[0][at] != found.number || outcomes[1][at] != from + found.rows || outcomes[2][at] != found.touches)
+            fail("%s, %s: asked at once it has another outcome", s->label, q->name);
+        for (int c = 0; c < 4; c++)
+            if (memcmp(many[c] + from, single[c], found.rows * sizeof **many))
+                fail("%s, %s: asked at once it has other rows", s->label, q->name);
+        from += found.rows;
+    }
+}
+
 /* Every outcome has to be what search_good lists for that typed name, and every pair a sum over the lines; what stands
  * behind them is kept. */
 static void compare_import(struct scene *s, uint32_t allowance)
@@ -471,7 +527,7 @@ static void compare_import(struct scene *s, uint32_t allowance)
         if (!belongs)
             continue;
         s->belong++;
-        size_t name = (ids[0] - 7) / 251, week = q->day / 7;
+        size_t name = name_of(s, ids[0]), week = q->day / 7;
         pair[name][week].lines++;
         if (q->reading != RUSHGIRDLE_MISSING) {
             pair[name][week].sum += q->reading;
@@ -481,7 +537,7 @@ static void compare_import(struct scene *s, uint32_t allowance)
     for (uint32_t name = 0; name < s->names; name++)
         for (uint32_t week = 0; week < WEEKS; week++)
             if (pair[name][week].lines) {
-                expected[ID][s->pairs] = name * 251 + 7;
+                expected[ID][s->pairs] = id_of(s, name);
                 expected[WEEK][s->pairs] = week;
                 expected[SUM][s->pairs] = pair[name][week].sum;
                 expected[COUNT][s->pairs] = pair[name][week].count;
@@ -543,13 +599,17 @@ static void sample(struct timed *t, struct scene *s)
     }
 }
 
-enum { GOOD, TWIN_GOOD, SIM, SEARCH, TWIN_SEARCH, CHECK, TWIN_CHECK, BUILD, TWIN_BUILD, SORT, IMPORT, ADD, WITHDRAW, CONTENDERS };
+enum { GOOD, TWIN_GOOD, SIM, SEARCH, TWIN_SEARCH, CHECK, TWIN_CHECK, BUILD, TWIN_BUILD, SORT, IMPORT, ADD, WITHDRAW, MANY, CONTENDERS };
 
-/* In a scene with a log the import takes turns with search_good and SimString, in one with changes these with the build and the check; elsewhere
- * all others do. */
+/* In a scene with a log the import takes turns with search_good and SimString, in one with changes these with the build and the check, in one of
+ * queries asked at once these with searches of their own and SimString, in one of checks the two checks; elsewhere all others do. */
 static bool takes_part(int which, const struct scene *s)
 {
     bool change = which == ADD || which == WITHDRAW;
+    if (s->checks)
+        return which == CHECK || which == TWIN_CHECK;
+    if (s->at_once || which == MANY)
+        return s->at_once && (which == MANY || which == GOOD || which == SEARCH || (which == SIM && s->simstring));
     if (s->changes || change)
         return s->changes && (change || which == BUILD || which == CHECK);
     if (which == SIM)
@@ -573,6 +633,7 @@ static void take_times(struct scene *s, double *seconds, unsigned rounds)
         [IMPORT] = { proved_import, s->queries, s->queries + s->pairs, NULL, 1, 1e9 },
         [ADD] = { proved_add, COPIES, COPIES, copy_index_less, 1, 1e9 },
         [WITHDRAW] = { proved_withdraw, COPIES, COPIES, copy_index, 1, 1e9 },
+        [MANY] = { proved_many, s->queries, s->rows, NULL, 1, 1e9 },
     };
     for (unsigned round = 0; round < rounds; round++)
         for (int k = 0; k < CONTENDERS; k++)
@@ -585,7 +646,8 @@ static void take_times(struct scene *s, double *seconds, unsigned rounds)
 /* ---- what is printed */
 
 /* How the labels of the rows begin that the goals are for. */
-static const char pool_rows[] = "256 pool names", log_rows[] = "1,024 lines", change_rows[] = "one of 256 pool names";
+static const char pool_rows[] = "256 pool names", log_rows[] = "1,024 lines", change_rows[] = "one of 256 pool names",
+                  many_rows[] = "1024 queries", few_rows[] = "32 queries";
 
 static struct {
     const char *what, *rows;
@@ -599,6 +661,8 @@ static struct {
     { "build / sort_unstable", pool_rows, BUILD, SORT, 3.0, 0, "" },
     { "a line of an import / search_good", log_rows, IMPORT, GOOD, 1.2, 0, "" },
     { "a line of an import / SimString", log_rows, IMPORT, SIM, 1.0, 0, "" },
+    { "a query of 1,024 at once / SimString", many_rows, MANY, SIM, 0.8, 0, "" },
+    { "a query of 32 at once, over and over / SimString", few_rows, MANY, SIM, 0.8, 0, "" },
     { "an add / a build of all names", change_rows, ADD, BUILD, 0.5, 0, "" },
     { "a withdrawal / a build of all names", change_rows, WITHDRAW, BUILD, 0.5, 0, "" },
 };
@@ -674,6 +738,36 @@ static void measure_changes(struct scene *s, unsigned rounds)
     finish(s);
 }
 
+/* Queries asked at once, beside searches of their own. */
+static void measure_many(struct scene *s, unsigned rounds)
+{
+    double t[CONTENDERS];
+    ready(s);
+    compare(s);
+    compare_many(s);
+    take_times(s, t, rounds);
+    note(s, t);
+    printf("| %s | %.0f | %.2f | %.2f | %.2f | %.2f | ", s->label, (double)s->touches / (double)s->queries, t[MANY] * 1e6,
+           t[SEARCH] * 1e6, t[MANY] / t[SEARCH], t[MANY] / t[GOOD]);
+    if (s->simstring)
+        printf("%.2f | %.2f |\n", t[SIM] * 1e6, t[MANY] / t[SIM]);
+    else
+        printf("- | - |\n");
+    fflush(stdout);
+    finish(s);
+}
+
+/* The check of an index, whose cost goes by the ids. */
+static void measure_check(struct scene *s, unsigned rounds)
+{
+    double t[CONTENDERS];
+    ready(s);
+    take_times(s, t, rounds);
+    printf("| %s | %.2f | %.2f | %.2f |\n", s->label, t[CHECK] * 1e6, t[TWIN_CHECK] * 1e6, t[CHECK] / t[TWIN_CHECK]);
+    fflush(stdout);
+    finish(s);
+}
+
 static void head(void)
 {
     puts("| register and queries | touches | search_good, µs | / SimString | / twin | search, µs | / twin's check and search |"
@@ -693,6 +787,7 @@ static struct scene *begin(uint8_t measure, uint16_t p, uint16_t q, const char *
     scene.measure = measure;
     scene.p = p;
     scene.q = q;
+    scene.step = 251;
     return &scene;
 }
 
@@ -721,6 +816,25 @@ static void pools(uint8_t measure_by, uint16_t p, uint16_t q, unsigned rounds)
     register_pools(s);
     mistyped_queries(s, QUERIES);
     measure(s, rounds);
+}
+
+static void many_pools(size_t queries, uint8_t measure_by, uint16_t p, uint16_t q, unsigned rounds)
+{
+    struct scene *s = begin(measure_by, p, q, "%zu queries of 256 pool names, %s %u/%u", queries, measures[measure_by], p, q);
+    register_pools(s);
+    mistyped_queries(s, queries);
+    s->at_once = true;
+    measure_many(s, rounds);
+}
+
+static void apart(size_t names, unsigned step, unsigned rounds)
+{
+    struct scene *s = begin(1, 1, 1, "%zu pool names, ids %u apart", names, step);
+    register_pools(s);
+    s->names = names;
+    s->step = step;
+    s->checks = true;
+    measure_check(s, rounds);
 }
 
 static void log_of_pools(uint8_t measure_by, uint16_t p, uint16_t q, unsigned rounds)
@@ -817,6 +931,21 @@ int main(int count, char **given)
     puts("|---|---|---|---|---|---|---|---|---|");
     for (uint8_t by = 1; by <= 4; by++)
         log_of_pools(by, 7, 10, rounds);
+    puts("\nQueries asked at once, in one call that checks the index once, beside searches of their own, for each query:\n");
+    puts("| queries | touches | at once, µs | search, µs | at once / search | at once / search_good | SimString, µs |"
+         " at once / SimString |");
+    puts("|---|---|---|---|---|---|---|---|");
+    for (uint8_t by = 1; by <= 4; by++)
+        many_pools(LINES, by, 7, 10, rounds);
+    for (uint8_t by = 1; by <= 4; by++)
+        many_pools(QUERIES, by, 7, 10, rounds);
+    puts("\nThe check of an index, by how far its ids are apart:\n");
+    puts("| register | check, µs | twin's check, µs | check / twin's |\n|---|---|---|---|");
+    apart(256, 1, rounds);
+    apart(256, 251, rounds);
+    apart(256, 256, rounds);
+    apart(16, 1, rounds);
+    apart(16, 4096, rounds);
     puts("\nA name added to the others, or withdrawn, with the check of the index, beside a build of all of them:\n");
     puts("| name | build, µs | add, µs | / build | withdrawal, µs | / build | check of the whole index, µs |");
     puts("|---|---|---|---|---|---|---|");
@@ -825,7 +954,7 @@ int main(int count, char **given)
     changed(256, 64, false, rounds);
     changed(256, 64, true, rounds);
     changed(256, LONGEST, false, rounds);
-    puts("\nThe goals, by the largest ratio of the rows of 256 pool names, and for the import of the rows of a log:\n");
+    puts("\nThe goals, by the largest ratio of the rows of 256 pool names that each is for:\n");
     puts("| ratio | goal | largest | at | |\n|---|---|---|---|---|");
     for (size_t g = 0; g < sizeof goals / sizeof *goals; g++)
         if (goals[g].worst == 0)

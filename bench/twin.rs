@@ -10,6 +10,7 @@ const NAMES: usize = 256;
 const FEATURES: usize = 202;
 const POSTINGS: usize = NAMES * FEATURES;
 const NOTHING: u32 = u32::MAX;
+const GUESSES: usize = 4096;
 
 #[repr(C)]
 #[derive(Clone, Copy)]
@@ -116,6 +117,11 @@ fn key(size: u32, feature: u32) -> u64 {
     u64::from(size) << 32 | u64::from(feature)
 }
 
+/// Where the two guesses of an id stand: by its last twelve bits, and behind those by the first twelve of its sixteen.
+fn guess_places(id: u32) -> [usize; 2] {
+    [id as usize % GUESSES, GUESSES + id as usize / 16 % GUESSES]
+}
+
 fn good(words: &[u32]) -> bool {
     let Some(index) = cut(words) else { return false };
     let fits = |name: &u32| *name < 1 << 24 && (3..=FEATURES as u32).contains(&(*name & 255));
@@ -137,9 +143,11 @@ fn good(words: &[u32]) -> bool {
         return false;
     }
     let mut tally = [0u32; NAMES];
-    let mut guesses = [0u8; 4096];
+    let mut guesses = [0u8; 2 * GUESSES];
     for (at, name) in index.names.iter().enumerate() {
-        guesses[(name >> 8) as usize % 4096] = at as u8;
+        for place in guess_places(name >> 8) {
+            guesses[place] = at as u8;
+        }
     }
     for row in index.rows {
         if row[0] > 255 {
@@ -153,7 +161,11 @@ fn good(words: &[u32]) -> bool {
             }
             least = id + 1;
             let word = id << 8 | row[0];
-            let mut at = guesses[*id as usize % 4096] as usize;
+            let [last, first] = guess_places(*id);
+            let mut at = guesses[last] as usize;
+            if index.names.get(at) != Some(&word) {
+                at = guesses[first] as usize;
+            }
             if index.names.get(at) != Some(&word) {
                 at = index.names.partition_point(|name| *name < word);
                 if index.names.get(at) != Some(&word) {

@@ -1,7 +1,7 @@
 /* Rushgirdle for C: which registered names are like this one?
  *
- * The functions of target/staticlib/libsurface.a, which `rt staticlib surface` makes from proved code, for x86-64 Linux. The rule that they
- * follow is docs/RULE.md. Every call ends, whatever it is given, and answers with number 0 or with a refusal.
+ * The functions of librushgirdle.a and librushgirdle.so, which `bash tools/library` makes from proved code, for Linux on x86-64 and aarch64. The
+ * rule that they follow is docs/RULE.md. Every call ends, whatever it is given, and answers with number 0 or with a refusal.
  *
  * What a caller owes
  *   A slice is a pointer and how many elements stand there, at most PTRDIFF_MAX bytes in all.
@@ -16,7 +16,8 @@
  * What is promised
  *   - The number, every field, and every lent element afterwards are fixed by the rule. Nothing but the lent elements is written.
  *   - What an answer tells a caller to read lies within what was lent: start + count is at most the number of words, rows at most the length of
- *     each column or of the list of rows, lines and pairs at most the length of each column of theirs, len at most the length of the buffer.
+ *     each column or of the list of rows, queries and each end of rows likewise, lines and pairs at most the length of each column of theirs, len
+ *     at most the length of the buffer.
  *   - A refused search writes no row, a refused import no outcome and no pair, a refused read no byte of the name, a refused write no byte of the
  *     line, a refused add or withdrawal no word. A refused build sets every word to 4294967295.
  *   - No memory is taken, no pointer is kept, nothing is remembered from call to call: any number of threads may call at once.
@@ -42,11 +43,12 @@ enum rushgirdle_number {
     RUSHGIRDLE_THRESHOLD = 5,  /* not 1 <= p <= q <= 1000 */
     RUSHGIRDLE_NOT_GOOD = 6,   /* the words are no good index */
     RUSHGIRDLE_ALLOWANCE = 7,  /* the touches needed exceed the allowance */
-    RUSHGIRDLE_ROOM = 8,       /* search: more answers than rows lent; build, add: the index exceeds the words; frames: the line or the name exceeds its buffer;
-                                * import: more lines than places for outcomes, or more pairs than places for pairs */
+    RUSHGIRDLE_ROOM = 8,       /* search: more answers than rows lent; many queries: there was no room for all; build, add: the index exceeds the words;
+                                * frames: the line or the name exceeds its buffer; import: more lines than places for outcomes, or more pairs than
+                                * places for pairs */
     RUSHGIRDLE_ORDER = 9,      /* a register id is not above the one before; add: the id is live */
     RUSHGIRDLE_FULL = 10,      /* build: a 257th name; add: 256 names are live; import: a 1025th line */
-    RUSHGIRDLE_MALFORMED = 11, /* not a frame of the kind that was asked for */
+    RUSHGIRDLE_MALFORMED = 11, /* not a frame of the kind that was asked for; many queries: a query that does not lie in the bytes */
     RUSHGIRDLE_CONTROL = 12,   /* the name or query holds a control character other than 0: a byte from 1 to 31, or 127 */
     RUSHGIRDLE_NOT_LIVE = 13   /* withdraw: the id is not live */
 };
@@ -77,10 +79,11 @@ enum rushgirdle_case {
 /* The bytes of stack that a call takes below its caller's own, the return address among them. A loader that looks for memcpy and memset at their
  * first call takes its own besides. */
 #define RUSHGIRDLE_STACK_BUILD 840000  /* rushgirdle_build */
-#define RUSHGIRDLE_STACK_UPKEEP 17000  /* rushgirdle_add, rushgirdle_withdraw */
-#define RUSHGIRDLE_STACK_INDEX 6000    /* rushgirdle_good, rushgirdle_list */
+#define RUSHGIRDLE_STACK_UPKEEP 21500  /* rushgirdle_add, rushgirdle_withdraw */
+#define RUSHGIRDLE_STACK_INDEX 10500   /* rushgirdle_good, rushgirdle_list */
 #define RUSHGIRDLE_STACK_SEARCH 17000  /* rushgirdle_search */
 #define RUSHGIRDLE_STACK_ROWS 25000    /* rushgirdle_search_rows */
+#define RUSHGIRDLE_STACK_MANY 17000    /* rushgirdle_search_many */
 #define RUSHGIRDLE_STACK_IMPORT 47000  /* rushgirdle_import */
 #define RUSHGIRDLE_STACK_FRAMES 256    /* each function that reads or writes a frame */
 
@@ -164,6 +167,37 @@ rushgirdle_search_answer rushgirdle_search_rows(
     const uint32_t *words, size_t words_length,
     rushgirdle_row *rows, size_t rows_length);
 
+typedef struct {
+    uint8_t number;    /* 0 where every query has its outcome, 8 otherwise */
+    uint32_t queries;  /* how many have, from the first on */
+    uint32_t rows;     /* how many rows were written, of all queries together */
+} rushgirdle_many_answer;
+
+/* Many queries of one index, which is checked once for all of them. Query k is the bytes from ends[k - 1], or from 0 where k is 0, up to and without
+ * ends[k]; all are asked by the one measure and threshold p/q, and each has the whole allowance.
+ *
+ * Outcome k is numbers[k], until[k], touches[k]: the number of query k, 0 or the first that holds of 11 where its ends do not ascend or lie beyond
+ * the bytes, 1, 2, 3, 12, 4, 5, 6, 7; where its rows end; and its touches, as a search of its own reports them. The rows of query k are those
+ * from until[k - 1], or from 0 where k is 0, up to and without until[k]; a refused query has none. A row is ids[i], shared[i], sizes[i], least[i], as
+ * after rushgirdle_search.
+ *
+ * The queries are answered in order until the rows of one have no room, or there is no place for its outcome: then the number is 8, and queries says how
+ * far it came. A list is whole or not there: of the query that it came to nothing is written. Go on with that one and those after it, or with
+ * more room; RUSHGIRDLE_MOST_NAMES rows are enough for one. The rows lent are as many as the shortest of the four columns has places, the outcomes as
+ * many as the shortest of the three; those beyond what is written keep their contents. */
+rushgirdle_many_answer rushgirdle_search_many(
+    const uint8_t *bytes, size_t bytes_length,
+    const uint32_t *ends, size_t ends_length,
+    uint8_t measure, uint16_t p, uint16_t q, uint32_t allowance,
+    const uint32_t *words, size_t words_length,
+    uint32_t *numbers, size_t numbers_length,
+    uint32_t *until, size_t until_length,
+    uint32_t *touches, size_t touches_length,
+    uint32_t *ids, size_t ids_length,
+    uint32_t *shared, size_t shared_length,
+    uint32_t *sizes, size_t sizes_length,
+    uint32_t *least, size_t least_length);
+
 /* ---- the import of a log */
 
 typedef struct {
@@ -219,7 +253,7 @@ typedef struct {
     uint16_t p;
     uint16_t q;
     uint32_t allowance;
-    size_t len;  /* the bytes of the query, 0 to 255 */
+    uint16_t len;  /* the bytes of the query, 0 to 255 */
 } rushgirdle_query_answer;
 
 /* 51: a query */

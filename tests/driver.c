@@ -1,6 +1,6 @@
 /* The proved library behind the second program's protocols (second/README.md): one case a line in, one line out.
  *
- *     driver good|list|build|search|rows|import|frames|add|withdraw|calls
+ *     driver good|list|build|search|rows|many|import|frames|add|withdraw|calls
  *
  * `rows` is the protocol `search`, with the rows lent as records. Of an import's frames `frames` has the log line, 4C.
  *
@@ -405,6 +405,43 @@ static void rows(void)
         drop(lent[i]);
 }
 
+static uint32_t at(const struct slice *s, size_t i)
+{
+    return ((uint32_t *)part(s))[i];
+}
+
+static void many(void)
+{
+    measure = (uint8_t)number("measure", UINT8_MAX);
+    p = (uint16_t)number("p", UINT16_MAX);
+    q = (uint16_t)number("q", UINT16_MAX);
+    allowance = (uint32_t)number("allowance", UINT32_MAX);
+    size_t places = (size_t)number("places", SIZE_MAX / 16), rows = (size_t)number("room", SIZE_MAX / 16);
+    struct slice text = bytes("bytes"), ends = slice_of((size_t)number("count", UINT32_MAX) * sizeof(uint32_t), 0);
+    for (size_t i = 0; i < ends.bytes / 4; i++)
+        ((uint32_t *)part(&ends))[i] = (uint32_t)number("end", UINT32_MAX);
+    keep(&ends);
+    struct slice index = words();
+    end();
+    struct slice numbers = column(places), until = column(places), touches = column(places);
+    struct slice ids = column(rows), shared = column(rows), sizes = column(rows), least = column(rows);
+    rushgirdle_many_answer a = rushgirdle_search_many(
+        part(&text), text.bytes, part(&ends), ends.bytes / 4, measure, p, q, allowance, part(&index), index.bytes / 4,
+        part(&numbers), places, part(&until), places, part(&touches), places,
+        part(&ids), rows, part(&shared), rows, part(&sizes), rows, part(&least), rows);
+    struct slice *lent[] = { &text, &ends, &index, &numbers, &until, &touches, &ids, &shared, &sizes, &least };
+    for (size_t i = 0; i < sizeof lent / sizeof *lent; i++)
+        check_slice(lent[i]);
+    printf("%u %u %u", (unsigned)a.number, (unsigned)a.queries, (unsigned)a.rows);
+    for (size_t i = 0; i < places; i++)
+        printf(" %u:%u:%u", at(&numbers, i), at(&until, i), at(&touches, i));
+    for (size_t i = 0; i < rows; i++)
+        print_row(at(&ids, i), at(&shared, i), at(&sizes, i), at(&least, i));
+    putchar('\n');
+    for (size_t i = 0; i < sizeof lent / sizeof *lent; i++)
+        drop(lent[i]);
+}
+
 /* An outcome as its protocol shows it: two numbers that are none are shown as they are. */
 static void print_outcome(uint32_t given, uint32_t value)
 {
@@ -588,7 +625,7 @@ static char *read_all(void)
 int main(int count, char **given)
 {
     static const struct { const char *name; void (*answer)(void); } kinds[] = {
-        { "good", good }, { "list", list }, { "build", build }, { "search", search }, { "rows", rows },
+        { "good", good }, { "list", list }, { "build", build }, { "search", search }, { "rows", rows }, { "many", many },
         { "import", import }, { "frames", frames }, { "add", add }, { "withdraw", withdraw }, { "calls", calls },
     };
     for (size_t k = 0; count == 2 && k < sizeof kinds / sizeof *kinds; k++) {
@@ -608,6 +645,6 @@ int main(int count, char **given)
         free(text);
         return fflush(stdout) ? 4 : 0;
     }
-    fputs("usage: driver good|list|build|search|rows|import|frames|add|withdraw|calls\n", stderr);
+    fputs("usage: driver good|list|build|search|rows|many|import|frames|add|withdraw|calls\n", stderr);
     return 2;
 }

@@ -1,6 +1,6 @@
 /* How much stack each function of include/rushgirdle.h takes. It is called on a stack that was painted before, on inputs that lead it as deep as
  * it goes, and how far the paint is gone is compared with the header's figure: that has to be enough, and at most one and a half times what is
- * taken. Prints what is taken, what fails, and at the end 'N passed, M failed'. For x86-64, as the archive is. */
+ * taken. Prints what is taken, what fails, and at the end 'N passed, M failed'. For x86-64 and aarch64. */
 #include <stdio.h>
 #include <string.h>
 
@@ -16,6 +16,18 @@ _Alignas(16) static unsigned char area[AREA];
 /* Calls it on the area, its stack pointer at the area's end. */
 static void on_area(void (*call)(void))
 {
+#ifdef __aarch64__
+    __asm__ volatile(
+        "mov x19, sp\n\t"
+        "mov sp, %0\n\t"
+        "blr %1\n\t"
+        "mov sp, x19"
+        :
+        : "r"(area + AREA), "r"(call)
+        : "x19", "x0", "x1", "x2", "x3", "x4", "x5", "x6", "x7", "x8", "x9", "x10", "x11", "x12", "x13", "x14", "x15", "x16", "x17", "x18", "x30",
+          "memory", "cc", "v0", "v1", "v2", "v3", "v4", "v5", "v6", "v7", "v8", "v9", "v10", "v11", "v12", "v13", "v14", "v15", "v16", "v17", "v18",
+          "v19", "v20", "v21", "v22", "v23", "v24", "v25", "v26", "v27", "v28", "v29", "v30", "v31");
+#else
     __asm__ volatile(
         "movq %%rsp, %%r12\n\t"
         "movq %0, %%rsp\n\t"
@@ -25,6 +37,7 @@ static void on_area(void (*call)(void))
         : "r"(area + AREA), "r"(call)
         : "r12", "rax", "rcx", "rdx", "rsi", "rdi", "r8", "r9", "r10", "r11", "memory", "cc", "xmm0", "xmm1", "xmm2", "xmm3", "xmm4", "xmm5",
           "xmm6", "xmm7", "xmm8", "xmm9", "xmm10", "xmm11", "xmm12", "xmm13", "xmm14", "xmm15");
+#endif
 }
 
 typedef void any(void);
@@ -70,6 +83,7 @@ static uint8_t query[NAME];
 static uint32_t words[RUSHGIRDLE_MOST_WORDS], built[RUSHGIRDLE_MOST_WORDS], fewer[RUSHGIRDLE_MOST_WORDS]; /* `fewer` has not the last name */
 static uint32_t ids[RUSHGIRDLE_MOST_NAMES], shared[RUSHGIRDLE_MOST_NAMES], sizes[RUSHGIRDLE_MOST_NAMES], least[RUSHGIRDLE_MOST_NAMES];
 static rushgirdle_row rows[RUSHGIRDLE_MOST_NAMES];
+static const uint32_t ends[2] = {0, NAME}; /* no query, and the query */
 static uint32_t cases[RUSHGIRDLE_MOST_LINES], values[RUSHGIRDLE_MOST_LINES];
 static uint32_t pair_ids[RUSHGIRDLE_MOST_LINES], weeks[RUSHGIRDLE_MOST_LINES], sums[RUSHGIRDLE_MOST_LINES], counts[RUSHGIRDLE_MOST_LINES];
 static uint8_t name[RUSHGIRDLE_LONGEST_NAME], line[RUSHGIRDLE_LONGEST_LINE];
@@ -136,6 +150,12 @@ static void call_search(void)
 static void call_search_rows(void)
 {
     CALLEE(rushgirdle_search_rows)(query, NAME, measure, p, q, UINT32_MAX, words, RUSHGIRDLE_MOST_WORDS, rows, RUSHGIRDLE_MOST_NAMES);
+}
+static void call_search_many(void)
+{
+    CALLEE(rushgirdle_search_many)(query, NAME, ends, 2, measure, p, q, UINT32_MAX, words, RUSHGIRDLE_MOST_WORDS,
+                                   cases, RUSHGIRDLE_MOST_LINES, values, RUSHGIRDLE_MOST_LINES, weeks, RUSHGIRDLE_MOST_LINES,
+                                   ids, RUSHGIRDLE_MOST_NAMES, shared, RUSHGIRDLE_MOST_NAMES, sizes, RUSHGIRDLE_MOST_NAMES, least, RUSHGIRDLE_MOST_NAMES);
 }
 static void call_import(void)
 {
@@ -224,6 +244,8 @@ int main(void)
     HOLDS(RUSHGIRDLE_STACK_SEARCH);
     SEARCHES(search_rows);
     HOLDS(RUSHGIRDLE_STACK_ROWS);
+    SEARCHES(search_many);
+    HOLDS(RUSHGIRDLE_STACK_MANY);
 
     /* every search, and then as many pairs as there can be: four weeks of each name */
     SEARCHES(import);

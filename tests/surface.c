@@ -633,6 +633,106 @@ static void test_rows(void)
     EXPECT(row_is(&all[0], 0, 3, 3, 3) && row_is(&all[255], 510, 3, 3, 3) && all_bytes((const uint8_t *)&all[256], 0, 44 * sizeof *all, 0xA5));
 }
 
+/* ---- many queries at once, of the index of LANE, LANES and PLANE that test_search has built */
+
+enum { NUMBERS, UNTIL, TOUCHES, OUTCOMES };
+static uint32_t outcome[OUTCOMES][8];
+
+/* the bytes of all queries one after the other, so many ends of them, and the places of the outcomes and of the rows */
+static rushgirdle_many_answer ask_into(const char *text, const uint32_t *ends, size_t n, unsigned p, uint32_t allowance, const size_t *places, const size_t *room)
+{
+    memset(outcome, 0xA5, sizeof outcome);
+    fill_columns();
+    return rushgirdle_search_many((const uint8_t *)text, strlen(text), ends, n, RUSHGIRDLE_DICE, (uint16_t)p, 13, allowance, lane, INDEX,
+                                  outcome[NUMBERS], places[0], outcome[UNTIL], places[1], outcome[TOUCHES], places[2],
+                                  ids, room[0], shared, room[1], sizes, room[2], least, room[3]);
+}
+
+static const size_t eight[4] = {8, 8, 8, 8};
+
+static rushgirdle_many_answer ask(const char *text, const uint32_t *ends, size_t n, unsigned p, uint32_t allowance)
+{
+    return ask_into(text, ends, n, p, allowance, eight, eight);
+}
+
+/* the answer, and the outcomes with nothing after them */
+static int came(rushgirdle_many_answer a, unsigned number, uint32_t n, const uint32_t (*expected)[OUTCOMES], uint32_t all)
+{
+    for (int c = 0; c < OUTCOMES; c++) {
+        for (uint32_t k = 0; k < n; k++)
+            if (outcome[c][k] != expected[k][c])
+                return 0;
+        if (!all_words(outcome[c], n, 8, KEPT))
+            return 0;
+    }
+    return a.number == number && a.queries == n && a.rows == all && columns_kept(all);
+}
+
+static int three_rows(void) { return columns_are(0, 10, 6, 6, 4) && columns_are(1, 11, 4, 7, 4) && columns_are(2, 12, 4, 7, 4); }
+
+static void test_many(void)
+{
+    /* LANE, no query, XYZ, LANES. LANES has size 7, and least counts 4 for size 6 (26 * 4 reaches 8 * 13) and 5 for size 7 (26 * 5 reaches 8 * 14, 26 * 4
+     * does not). At size 6 three of its features have no list and four have one name: 1 signature posting and 3 tests. At size 7 five have one name and
+     * LAN and ANE two: 3 signature postings, of LANES alone, and 4 tests */
+    static const char text[] = "LANEXYZLANES";
+    static const uint32_t ends[4] = {4, 4, 7, 12};
+    static const uint32_t four[4][OUTCOMES] = {{0, 3, 15}, {1, 3, 0}, {0, 3, 0}, {0, 5, 11}};
+    EXPECT(came(ask(text, ends, 4, 8, 15), 0, 4, four, 5) && three_rows() && columns_are(3, 10, 4, 6, 4) && columns_are(4, 11, 7, 7, 5));
+
+    /* each has the whole allowance: 14 is too little for LANE alone, 10 for both, 0 for neither of the others */
+    static const uint32_t fourteen[4][OUTCOMES] = {{7, 0, 14}, {1, 0, 0}, {0, 0, 0}, {0, 2, 11}}, ten[4][OUTCOMES] = {{7, 0, 10}, {1, 0, 0}, {0, 0, 0}, {7, 0, 10}};
+    EXPECT(came(ask(text, ends, 4, 8, 14), 0, 4, fourteen, 2) && columns_are(0, 10, 4, 6, 4) && columns_are(1, 11, 7, 7, 5));
+    EXPECT(came(ask(text, ends, 4, 8, 10), 0, 4, ten, 0));
+
+    /* with just the places and the room, in columns of different lengths; a place less in any stops it before LANES, and nothing of LANES is written */
+    static const size_t just[3] = {4, 7, 5}, just_rows[4] = {6, 5, 8, 7};
+    EXPECT(came(ask_into(text, ends, 4, 8, 15, just, just_rows), 0, 4, four, 5) && three_rows() && columns_are(4, 11, 7, 7, 5));
+    for (int c = 0; c < 3; c++) {
+        size_t places[3] = {8, 8, 8};
+        places[c] = 3;
+        EXPECT(came(ask_into(text, ends, 4, 8, 15, places, eight), RUSHGIRDLE_ROOM, 3, four, 3) && three_rows());
+    }
+    for (int c = 0; c < 4; c++)
+        for (size_t n = 3; n <= 4; n++) {
+            size_t room[4] = {8, 8, 8, 8};
+            room[c] = n;
+            EXPECT(came(ask_into(text, ends, 4, 8, 15, eight, room), 8, 3, four, 3) && three_rows());
+            room[c] = 2;
+            EXPECT(came(ask_into(text, ends, 4, 8, 15, eight, room), 8, 0, NULL, 0));
+        }
+    /* it goes on from there: the rest of the bytes and their ends */
+    EXPECT(came(ask("LANES", (const uint32_t[]){5}, 1, 8, 15), 0, 1, (const uint32_t[1][OUTCOMES]){{0, 2, 11}}, 2) && columns_are(1, 11, 7, 7, 5));
+    /* what has no rows needs no room, and stands before and after what has */
+    static const size_t none[4] = {0, 0, 0, 0};
+    EXPECT(came(ask_into("XYZ", (const uint32_t[]){0, 3}, 2, 8, 15, eight, none), 0, 2, (const uint32_t[2][OUTCOMES]){{1, 0, 0}, {0, 0, 0}}, 0));
+
+    /* a query whose ends do not ascend, or lie beyond the bytes, is 11, before all else; the one after it goes from there */
+    EXPECT(came(ask(text, (const uint32_t[]){4, 3, 7, 12}, 4, 8, 15), 0, 4, (const uint32_t[4][OUTCOMES]){{0, 3, 15}, {11, 3, 0}, {0, 3, 0}, {0, 5, 11}}, 5));
+    EXPECT(came(ask(text, (const uint32_t[]){13, 7, 12}, 3, 8, 15), 0, 3, (const uint32_t[3][OUTCOMES]){{11, 0, 0}, {11, 0, 0}, {0, 2, 11}}, 2));
+    EXPECT(came(ask(text, (const uint32_t[]){BLANK, BLANK, 0, 4}, 4, 0, 0), 0, 4, (const uint32_t[4][OUTCOMES]){{11, 0, 0}, {11, 0, 0}, {11, 0, 0}, {5, 0, 0}}, 0));
+    EXPECT(came(ask("", (const uint32_t[]){0, 1}, 2, 8, 15), 0, 2, (const uint32_t[2][OUTCOMES]){{1, 0, 0}, {11, 0, 0}}, 0));
+
+    /* a bad query, measure, threshold or index refuses each query, and not the whole */
+    EXPECT(came(ask("A\tLANE", (const uint32_t[]){2, 6}, 2, 8, 15), 0, 2, (const uint32_t[2][OUTCOMES]){{12, 0, 0}, {0, 3, 15}}, 3) && three_rows());
+    EXPECT(came(ask(text, ends, 4, 14, 15), 0, 4, (const uint32_t[4][OUTCOMES]){{5, 0, 0}, {1, 0, 0}, {5, 0, 0}, {5, 0, 0}}, 0));
+    lane[2]++;
+    EXPECT(came(ask(text, ends, 4, 8, 15), 0, 4, (const uint32_t[4][OUTCOMES]){{6, 0, 0}, {1, 0, 0}, {6, 0, 0}, {6, 0, 0}}, 0));
+    lane[2]--;
+    memset(outcome, 0xA5, sizeof outcome);
+    fill_columns();
+    EXPECT(came(rushgirdle_search_many((const uint8_t *)text, 12, ends, 4, 5, 8, 13, 15, lane, INDEX, outcome[0], 8, outcome[1], 8, outcome[2], 8, ids, 8, shared, 8, sizes, 8, least, 8),
+                0, 4, (const uint32_t[4][OUTCOMES]){{4, 0, 0}, {1, 0, 0}, {4, 0, 0}, {4, 0, 0}}, 0));
+
+    /* NULL with length 0: everything, the bytes, the ends, the outcomes, the rows */
+    rushgirdle_many_answer a = rushgirdle_search_many(NULL, 0, NULL, 0, 1, 8, 13, 15, NULL, 0, NULL, 0, NULL, 0, NULL, 0, NULL, 0, NULL, 0, NULL, 0, NULL, 0);
+    EXPECT(a.number == 0 && a.queries == 0 && a.rows == 0);
+    EXPECT(came(ask(text, NULL, 0, 8, 15), 0, 0, NULL, 0));
+    EXPECT(came(ask_into(text, ends, 4, 8, 15, none, eight), 8, 0, NULL, 0));
+    a = rushgirdle_search_many(NULL, 0, ends, 4, 1, 8, 13, 15, lane, INDEX, NULL, 0, NULL, 0, NULL, 0, NULL, 0, NULL, 0, NULL, 0, NULL, 0);
+    EXPECT(a.number == 8 && a.queries == 0 && a.rows == 0);
+}
+
 /* ---- the import */
 
 enum { CASES, VALUES, IDS, WEEKS, SUMS, COUNTS, COLUMNS };
@@ -1022,6 +1122,23 @@ static void test_fences(void)
     EXPECT(a.number == 0 && a.rows == 2 && a.touches == 6 && a.p == 1 && a.q == 1);
     EXPECT(row_is(&r[0], 1, 3, 3, 3) && row_is(&r[1], 2, 3, 3, 3) && row_is(&r[-1], KEPT, KEPT, KEPT, KEPT));
 
+    /* A and A again: two rows each, in just the places */
+    static const uint32_t two_ends[2] = {1, 2};
+    uint32_t *f[7];
+    for (int k = 0; k < 7; k++)
+        f[k] = fenced(NULL, k < 3 ? 8 : 16);
+    rushgirdle_many_answer s = rushgirdle_search_many(fenced("AA", 2), 2, fenced(two_ends, 8), 2, 1, 1, 1, 6, w, 23, f[0], 2, f[1], 2, f[2], 2, f[3], 4, f[4], 4, f[5], 4, f[6], 4);
+    EXPECT(s.number == 0 && s.queries == 2 && s.rows == 4 && f[0][1] == 0 && f[1][0] == 2 && f[1][1] == 4 && f[2][1] == 6);
+    EXPECT(f[3][0] == 1 && f[3][1] == 2 && f[3][2] == 1 && f[3][3] == 2 && f[4][3] == 3 && f[5][3] == 3 && f[6][3] == 3);
+    for (int k = 0; k < 7; k++)
+        EXPECT(f[k][-1] == KEPT);
+    for (size_t n = 0; n < 2; n++) { /* fewer bytes and fewer ends */
+        s = rushgirdle_search_many(fenced("AA", n), n, fenced(two_ends, 8), 2, 1, 1, 1, 6, w, 23, f[0], 2, f[1], 2, f[2], 2, f[3], 4, f[4], 4, f[5], 4, f[6], 4);
+        EXPECT(s.number == 0 && s.queries == 2 && s.rows == 2 * n && f[0][1] == 11);
+        s = rushgirdle_search_many(fenced("AA", 2), 2, fenced(two_ends, 4 * n), n, 1, 1, 1, 6, w, 23, f[0], 2, f[1], 2, f[2], 2, f[3], 4, f[4], 4, f[5], 4, f[6], 4);
+        EXPECT(s.number == 0 && s.queries == n && s.rows == 2 * n);
+    }
+
     /* A alone, under 5: a reading of 45 and a missing one in one week; and every shorter log */
     static const uint32_t five[19] = {1, 3, 3, 1283, 3, 16641, 0, 1, 3, 4259841, 1, 1, 3, 1090519041, 2, 1, 5, 5, 5};
     static const char log[] = "4C0000002D0141\n4C0006FFFF0141\n";
@@ -1061,8 +1178,18 @@ static void test_fences(void)
     EXPECT(rushgirdle_write_log(fenced(NULL, 17), 17, 1, 2, fenced("ZY", 2), 2).number == 0);
 }
 
+/* each answer fits two registers, and so is returned the same way on every processor */
+static void test_sizes(void)
+{
+    EXPECT(sizeof(rushgirdle_build_answer) <= 16 && sizeof(rushgirdle_list_answer) <= 16 && sizeof(rushgirdle_search_answer) <= 16);
+    EXPECT(sizeof(rushgirdle_many_answer) <= 16 && sizeof(rushgirdle_import_answer) <= 16 && sizeof(rushgirdle_write_answer) <= 16);
+    EXPECT(sizeof(rushgirdle_name_answer) <= 16 && sizeof(rushgirdle_query_answer) <= 16 && sizeof(rushgirdle_row_answer) <= 16);
+    EXPECT(sizeof(rushgirdle_end_answer) <= 16 && sizeof(rushgirdle_refusal_answer) <= 16 && sizeof(rushgirdle_log_answer) <= 16);
+}
+
 int main(void)
 {
+    test_sizes();
     memset(too_long, 'A', LONGEST + 1);
     test_build();
     test_good();
@@ -1072,6 +1199,7 @@ int main(void)
     test_upkeep_most();
     test_search();
     test_rows();
+    test_many();
     test_import();
     test_import_most();
     test_read();

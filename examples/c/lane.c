@@ -1,8 +1,8 @@
-/* Which of three registered names are like LANE? Then LANES is withdrawn, and added under another id. The answers come as records;
- * examples/python/lane.py asks for columns, and prints the same.
+/* Which of three registered names are like LANE? Then LANES is withdrawn, and added under another id. examples/python/lane.py and
+ * examples/rust/lane.rs print the same.
  *
- *   rt staticlib surface
- *   gcc -Iinclude -o target/lane examples/c/lane.c target/staticlib/libsurface.a
+ *   bash tools/library
+ *   cc -Itarget/library -o target/lane examples/c/lane.c target/library/librushgirdle.a
  *   target/lane
  */
 #include <stdio.h>

@@ -1,69 +1,40 @@
-"""Which of three registered names are like LANE? Then LANES is withdrawn, and added under another id. The answers come as four columns;
-examples/c/lane.c asks for records, and prints the same.
+"""Which of three registered names are like LANE? Then LANES is withdrawn, and added under another id. examples/c/lane.c and examples/rust/lane.rs
+print the same.
 
-  rt staticlib surface
-  gcc -shared -o target/librushgirdle.so -Wl,--whole-archive target/staticlib/libsurface.a -Wl,--no-whole-archive
-  python3 examples/python/lane.py target/librushgirdle.so
-
-The archive is for x86-64, so the Python has to be one for x86-64 too.
+  bash tools/library
+  PKG_CONFIG_PATH=target/library PYTHONPATH=python python3 examples/python/lane.py
 """
-import sys
-from ctypes import CDLL, POINTER, Structure, c_char_p, c_size_t, c_uint8, c_uint16, c_uint32
+from rushgirdle import Index, Refusal
 
-DICE = 1
-MOST_NAMES = 256
-MOST_WORDS = 258819
-
-
-class BuildAnswer(Structure):
-    _fields_ = [("number", c_uint8), ("line", c_uint32)]
-
-
-class SearchAnswer(Structure):
-    _fields_ = [("number", c_uint8), ("rows", c_uint32), ("touches", c_uint32), ("p", c_uint16), ("q", c_uint16)]
-
-
-library = CDLL(sys.argv[1])
-read_bytes = [c_char_p, c_size_t]
-lent_words = [POINTER(c_uint32), c_size_t]
-library.rushgirdle_build.restype = BuildAnswer
-library.rushgirdle_build.argtypes = read_bytes + lent_words
-library.rushgirdle_add.restype = c_uint8
-library.rushgirdle_add.argtypes = lent_words + [c_uint16] + read_bytes
-library.rushgirdle_withdraw.restype = c_uint8
-library.rushgirdle_withdraw.argtypes = lent_words + [c_uint16]
-library.rushgirdle_search.restype = SearchAnswer
-library.rushgirdle_search.argtypes = read_bytes + [c_uint8, c_uint16, c_uint16, c_uint32] + 5 * lent_words
-
-register = b"4E000A044C414E45\n4E000B054C414E4553\n4E000C05504C414E45\n"  # 10 LANE, 11 LANES, 12 PLANE
-words = (c_uint32 * MOST_WORDS)()
+pools = Index.build({10: 'LANE', 11: 'LANES', 12: 'PLANE'})
 
 
 def look_up(query, allowance):
-    ids, shared, sizes, least = ((c_uint32 * MOST_NAMES)() for _ in range(4))
-    found = library.rushgirdle_search(
-        query, len(query), DICE, 8, 13, allowance, words, MOST_WORDS,
-        ids, MOST_NAMES, shared, MOST_NAMES, sizes, MOST_NAMES, least, MOST_NAMES)
-    print(f"{query.decode()}, Dice 8/13, allowance {allowance}: number {found.number}")
-    for k in range(found.rows):
-        print(f"id {ids[k]} shared {shared[k]} size {sizes[k]} least {least[k]}")
-    print(f"rows {found.rows} touches {found.touches} threshold {found.p}/{found.q}")
+    said = f'{query}, Dice 8/13, allowance {allowance}: number'
+    try:
+        found = pools.search(query, 'dice', '8/13', allowance)
+    except Refusal as refusal:
+        print(said, refusal.number)
+        print(f'rows 0 touches {refusal.touches} threshold 0/0')
+        return
+    print(said, 0)
+    for row in found:
+        print(f'id {row.id} shared {row.shared} size {row.size} least {row.least}')
+    print(f'rows {len(found)} touches {found.touches} threshold {found.threshold}')
 
 
-def withdraw(number):
-    print(f"withdraw {number}: number {library.rushgirdle_withdraw(words, MOST_WORDS, number)}")
+def change(said, call, *taken):
+    number = 0
+    try:
+        call(*taken)
+    except Refusal as refusal:
+        number = refusal.number
+    print(f'{said}: number {number}')
 
 
-def add(number, name):
-    print(f"add {name.decode()} under {number}: number {library.rushgirdle_add(words, MOST_WORDS, number, name, len(name))}")
-
-
-built = library.rushgirdle_build(register, len(register), words, MOST_WORDS)
-if built.number != 0:
-    sys.exit(f"line {built.line} is refused with {built.number}")
-look_up(b"LANE", 15)
-look_up(b"LANE", 14)
-withdraw(11)
-add(13, b"LANES")
-look_up(b"LANE", 15)
-withdraw(11)
+look_up('LANE', 15)
+look_up('LANE', 14)
+change('withdraw 11', pools.withdraw, 11)
+change('add LANES under 13', pools.add, 13, 'LANES')
+look_up('LANE', 15)
+change('withdraw 11', pools.withdraw, 11)

@@ -10,11 +10,12 @@ use second::differ::{differ, program, Run};
 use second::faults;
 use second::generate;
 use second::import_faults;
-use second::protocol::{add_answer, calls_answer, import_answer, withdraw_answer, Kind};
+use second::many_faults::many_fault;
+use second::protocol::{add_answer, calls_answer, import_answer, many_answer, withdraw_answer, Kind};
 use second::upkeep_faults::{add_fault, run_fault, withdraw_fault};
 
 const USAGE: &str = "usage:
-    second lookup|importer|features|likeness|good|list|build|search|frames|import|add|withdraw|calls
+    second lookup|importer|features|likeness|good|list|build|search|frames|import|add|withdraw|calls|many
                   standard input to standard output
     second generate SEED COUNT KIND [--from AT] [--to DIRECTORY]
     second differ --program PATH [--arg WORD]..  --seed SEED --count COUNT
@@ -66,6 +67,7 @@ fn wrong_answer(kind: &str, name: &str, input: &[u8]) -> Result<Vec<u8>, String>
         Some(Kind::Add) => add_fault(name).map(|add| add_answer(input, add)),
         Some(Kind::Withdraw) => withdraw_fault(name).map(|withdraw| withdraw_answer(input, withdraw)),
         Some(Kind::Calls) => run_fault(name).map(|wrong| calls_answer(input, |words, calls| wrong.run(words, calls))),
+        Some(Kind::Many) => many_fault(name).map(|wrong| many_answer(input, wrong)),
         _ => return Err(USAGE.to_string()),
     };
     wrong.unwrap_or_else(|| Err(format!("no fault {name}")))

@@ -12,6 +12,8 @@ use crate::import::{import, Imported, Outcomes, Pairs, Settings};
 use crate::importer::importer;
 use crate::index::list_for;
 use crate::lookup::lookup;
+use crate::many::{search_many, Outcome as QueryOutcome, Queries};
+use crate::many_faults::Many;
 use crate::measures::{least_count, searched, similar, Measure, Threshold};
 use crate::refusal::number_of;
 use crate::search::{search, AnswerRow, Query};
@@ -50,10 +52,12 @@ pub enum Kind {
     Withdraw,
     /// A run of adds and withdrawals.
     Calls,
+    /// Many queries at once.
+    Many,
 }
 
 impl Kind {
-    pub const ALL: [Kind; 16] = [
+    pub const ALL: [Kind; 17] = [
         Kind::Lookup,
         Kind::Features,
         Kind::Likeness,
@@ -70,6 +74,7 @@ impl Kind {
         Kind::Add,
         Kind::Withdraw,
         Kind::Calls,
+        Kind::Many,
     ];
 
     pub fn word(self) -> &'static str {
@@ -90,6 +95,7 @@ impl Kind {
             Kind::Add => "add",
             Kind::Withdraw => "withdraw",
             Kind::Calls => "calls",
+            Kind::Many => "many",
         }
     }
 
@@ -118,6 +124,7 @@ impl Kind {
             Kind::Add => return add_answer(input, add),
             Kind::Withdraw => return withdraw_answer(input, withdraw),
             Kind::Calls => return calls_answer(input, run),
+            Kind::Many => return many_answer(input, search_many),
         };
         by_lines(input, line)
     }
@@ -172,6 +179,23 @@ pub fn calls_answer(input: &[u8], run: impl Fn(&mut [u32], &[Call]) -> Vec<u8>) 
         build(b"", &mut words);
         let numbers = run(&mut words, &calls).into_iter().map(u32::from);
         Ok(spaced(&numbers.chain(words).collect::<Vec<_>>()))
+    })
+}
+
+/// The protocol `many` over a given call.
+pub fn many_answer(input: &[u8], search_many: Many) -> Result<Vec<u8>, String> {
+    by_lines(input, |case| {
+        let (measure, p, q) = (case.number("measure")?, case.number("p")?, case.number("q")?);
+        let (allowance, places, room) = (case.number("allowance")?, case.number("places")?, case.number("room")?);
+        let (bytes, count) = (case.bytes("bytes")?, case.number::<u32>("count")?);
+        let ends = (0..count).map(|_| case.number("end")).collect::<Result<_, _>>()?;
+        let queries = Queries { measure, p, q, allowance, bytes, ends };
+        let lent = QueryOutcome { number: LENT_FIELD, until: LENT_FIELD, touches: LENT_FIELD };
+        let (mut outcomes, mut rows) = (vec![lent; places], vec![LENT_ROW; room]);
+        let came = search_many(&case.slice()?, &queries, &mut outcomes, &mut rows);
+        let outcome = |of: &QueryOutcome| format!("{}:{}:{}", of.number, of.until, of.touches);
+        let shown: Vec<String> = outcomes.iter().map(outcome).chain(rows.iter().map(shown_row)).collect();
+        Ok(joined(format!("{} {} {}", came.number, came.queries, came.rows), &spaced(&shown)))
     })
 }
 
@@ -321,10 +345,13 @@ fn search_line(case: &mut Words<'_>) -> Result<String, String> {
     let query = Query { measure, p, q, allowance, name: case.bytes("query")? };
     let mut rows = vec![LENT_ROW; room];
     let answer = search(&case.slice()?, &query, &mut rows);
-    let row = |row: &AnswerRow| format!("{}:{}:{}:{}", row.id, row.shared, row.size, row.least);
-    let rows: Vec<String> = rows.iter().map(row).collect();
+    let rows: Vec<String> = rows.iter().map(shown_row).collect();
     let head = format!("{} {} {} {} {}", answer.number, answer.rows, answer.touches, answer.p, answer.q);
     Ok(joined(head, &spaced(&rows)))
+}
+
+fn shown_row(row: &AnswerRow) -> String {
+    format!("{}:{}:{}:{}", row.id, row.shared, row.size, row.least)
 }
 
 fn import_line(

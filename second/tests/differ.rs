@@ -56,6 +56,7 @@ fn the_kept_regressions_hold() {
         (Kind::Add, "example_of_the_rule"),
         (Kind::Withdraw, "example_of_the_rule"),
         (Kind::Calls, "example_of_the_rule"),
+        (Kind::Many, "example_of_the_rule"),
     ] {
         let kept = kept(&regressions(), kind).unwrap();
         assert!(kept.iter().any(|one| one.name == known));

@@ -18,8 +18,10 @@ use second::importer::{importer, settings_of, three_parts};
 use second::index::{cut, good_index, list_for};
 use second::listed::{features_of_index, similarity};
 use second::lookup::{lookup, parts};
+use second::many::search_many;
+use second::many_faults::MANY_FAULTS;
 use second::measures::{least_count, Measure, Threshold};
-use second::protocol::{add_answer, calls_answer, import_answer, withdraw_answer, Kind};
+use second::protocol::{add_answer, calls_answer, import_answer, many_answer, withdraw_answer, Kind};
 use second::random::Random;
 use second::upkeep::{add, live_names, run, withdraw, words_of_live, Call, Live};
 use second::upkeep_faults::{wrong_runs, ADD_FAULTS, WITHDRAW_FAULTS};
@@ -82,6 +84,7 @@ fn every_number_comes_up() {
     assert_eq!(numbers(Kind::ImportFrames, 1500), set(&[0, 8, 11]));
     assert_eq!(numbers(Kind::Add, 1500), set(&[0, 1, 2, 3, 6, 8, 9, 10, 12]));
     assert_eq!(numbers(Kind::Withdraw, 1500), set(&[0, 6, 13]));
+    assert_eq!(numbers(Kind::Many, 500), set(&[0, 8]));
 }
 
 /// Lists that are there, lists that are not, and features beyond 32 bits of which the low 32 have a list.
@@ -274,6 +277,31 @@ fn generated_inputs_show_every_wrong_add() {
 fn generated_inputs_show_every_wrong_withdrawal() {
     let right = |input: &[u8]| withdraw_answer(input, withdraw).unwrap();
     shown(Kind::Withdraw, &WITHDRAW_FAULTS, right, |wrong, input| withdraw_answer(input, wrong).unwrap());
+}
+
+#[test]
+fn generated_inputs_show_every_wrong_call_with_many_queries() {
+    let right = |input: &[u8]| many_answer(input, search_many).unwrap();
+    shown(Kind::Many, &MANY_FAULTS, right, |wrong, input| many_answer(input, wrong).unwrap());
+}
+
+/// Every number that a query can have, and calls that stop before the first query, between others, and not at all.
+#[test]
+fn many_queries_have_every_outcome() {
+    let (mut given, mut stopped, mut whole) = (BTreeSet::new(), BTreeSet::new(), BTreeSet::new());
+    for at in 0..1500 {
+        let line = String::from_utf8(input(Kind::Many, SEED, at)).unwrap();
+        let places: usize = line.split_whitespace().nth(4).unwrap().parse().unwrap();
+        let answer = String::from_utf8(Kind::Many.answer(line.as_bytes()).unwrap()).unwrap();
+        let words: Vec<&str> = answer.split_whitespace().collect();
+        let queries: usize = words[1].parse().unwrap();
+        assert!(queries <= places);
+        given.extend(words[3..3 + queries].iter().map(|of| of.split(':').next().unwrap().parse::<u8>().unwrap()));
+        let came = if words[0] == "0" { &mut whole } else { &mut stopped };
+        came.insert(queries.min(12));
+    }
+    assert_eq!(given, BTreeSet::from([0, 1, 2, 3, 4, 5, 6, 7, 11, 12]));
+    assert_eq!((stopped, whole), ((0..=12).collect(), (0..=12).collect()));
 }
 
 /// Faults that no run from the empty index shows: they need words that are not good, features that no name gives, rubbish

@@ -31,7 +31,7 @@ fn examples_give_what_is_printed() {
 }
 
 /// What does not follow a protocol, and what is said of it.
-const REFUSED: [(Kind, &str, &str); 22] = [
+const REFUSED: [(Kind, &str, &str); 24] = [
     (Kind::Features, "4C4\n", "line 1: name is 4C4"),
     (Kind::Features, "4C 41\n", "line 1: 41 is one too many"),
     (Kind::Features, "4C\n\n", "line 2: no name"),
@@ -46,6 +46,8 @@ const REFUSED: [(Kind, &str, &str); 22] = [
     (Kind::LogFrames, "write 4C 12 65536 6 6\n", "line 1: day is 65536"),
     (Kind::Import, "1 1 1 6 0 -\n", "line 1: pairs is -"),
     (Kind::Import, "1 1 1 6 0 0\n", "line 1: no log"),
+    (Kind::Many, "1 1 1 6 0 0 4142 2 1\n", "line 1: no end"),
+    (Kind::Many, "1 1 1 6 0 0 4142\n", "line 1: no count"),
     (Kind::Add, "65536 41 0 0 0\n", "line 1: id is 65536"),
     (Kind::Add, "1\n", "line 1: no name"),
     (Kind::Withdraw, "\n", "line 1: no id"),

@@ -26,9 +26,9 @@ pub record Checked (w : List ℕ) : Type 0 where
 unfoldable pub nameFor : List ℕ → ℕ → ℕ → ℕ
 nameFor w size id = firstFrom (λ (i : ℕ). eqb (nameId w i) id && eqb (nameSize w i) size) (nameCount w) 0
 
--- how many guesses there are, one for each id's last twelve bits
+-- how many guesses there are, of both kinds
 abbrev pub guessRoom : ℕ
-guessRoom = 4096
+guessRoom = 8192
 
 -- the tally has, at each name's place, how many of the first r lists hold the name
 unfoldable pub Tallied : List ℕ → ℕ → List ℕ → Type 0

@@ -140,7 +140,10 @@ fn name_for(words: &[u32], size: u32, id: u32) -> usize
     names
 }
 
-// Sets a guess at the last twelve bits of each name's id: the name's place, the last one where names share these bits.
+// How many guesses there are of each of two kinds: by the last twelve bits of an id, and behind them by the first twelve of its sixteen.
+const GUESSES: usize = 4096;
+
+// Sets both guesses of each name's id: the name's place, the last one where names share a guess.
 fn guess_names(words: &[u32], guesses: &mut [u8])
     requires { ⌜ Named (now words) × (guessRoom ≤ length (now guesses)) ⌝ }
 {
@@ -148,9 +151,25 @@ fn guess_names(words: &[u32], guesses: &mut [u8])
     let mut i: usize = 0;
     while i < names {
         let id = words::name_id(words, i) as usize;
-        guesses[id % 4096] = i as u8;
+        guesses[id % GUESSES] = i as u8;
+        guesses[GUESSES + id / 16 % GUESSES] = i as u8;
         i += 1;
     }
+}
+
+// Whether the guessed name, if there is one, is the one that name_for finds.
+fn is_name(words: &[u32], guess: usize, size: u32, id: u32) -> bool
+    requires { ⌜ Named (now words) ⌝ }
+    ensures { λ r. ⌜ (r ≡ true → guess ≡ nameFor (now (words .entry)) size id) ⌝ }
+{
+    if guess < words::name_count(words) {
+        if words::name_id(words, guess) == id {
+            if words::name_size(words, guess) == size {
+                return true;
+            }
+        }
+    }
+    false
 }
 
 // As name_for, whatever the guesses are: a guess that is the name saves the search.
@@ -158,13 +177,13 @@ fn name_near(words: &[u32], guesses: &[u8], size: u32, id: u32) -> usize
     requires { ⌜ Named (now words) × (guessRoom ≤ length (now guesses)) ⌝ }
     ensures { λ r. ⌜ r ≡ nameFor (now (words .entry)) size id ⌝ }
 {
-    let guess = guesses[id as usize % 4096] as usize;
-    if guess < words::name_count(words) {
-        if words::name_id(words, guess) == id {
-            if words::name_size(words, guess) == size {
-                return guess;
-            }
-        }
+    let last = guesses[id as usize % GUESSES] as usize;
+    if is_name(words, last, size, id) {
+        return last;
+    }
+    let first = guesses[GUESSES + id as usize / 16 % GUESSES] as usize;
+    if is_name(words, first, size, id) {
+        return first;
     }
     name_for(words, size, id)
 }
@@ -179,19 +198,19 @@ fn list_good(words: &[u32], guesses: &[u8], r: usize, tally: &mut [u32]) -> bool
     let first = words::postings_start(words) + words::row_place(words, r);
     let count = words::row_length(words, r);
     let size = words::row_size(words, r);
+    let mut next: usize = 0;
     let mut k: usize = 0;
     while k < count {
         let id = words[first + k];
-        if 0 < k {
-            if id <= words[first + (k - 1)] {
-                return false;
-            }
+        if (id as usize) < next {
+            return false;
         }
         let at = name_near(words, guesses, size, id);
         if names <= at {
             return false;
         }
         tally[at] += 1;
+        next = id as usize + 1;
         k += 1;
     }
     true
@@ -234,7 +253,7 @@ fn lists_good(words: &[u32]) -> bool
     requires { ⌜ Checked (now words) ⌝ }
     ensures { λ r. ⌜ r ≡ listsGood (now (words .entry)) ⌝ }
 {
-    let mut guesses = [0u8; 4096];
+    let mut guesses = [0u8; 2 * GUESSES];
     guess_names(words, &mut guesses);
     let mut tally = [0u32; MOST_NAMES];
     if !rows_tallied(words, &guesses, &mut tally) {

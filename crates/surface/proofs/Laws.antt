@@ -13,8 +13,10 @@ use lib.Dec.{eqb, leb, ltb}
 use Rattle.names.specs.Features.{featuresOf}
 use Rattle.likeness.specs.Terms.{lowestTerms}
 use Rattle.fields.specs.declared.Layout.{Layout}
-use Rattle.fields.specs.Layouts.{lineOf, readOf, writtenOf, longestName}
-use Rattle.fields.proofs.Layouts.{read-cases}
+use Rattle.hex.specs.Lines.{bytesOf}
+use Rattle.hex.proofs.Lines.{length-bytes, well-formed-bytes}
+use Rattle.fields.specs.Layouts.{headSize, lineOf, readOf, writtenOf, longestName}
+use Rattle.fields.proofs.Layouts.{size-named, frame-well-formed, frame-length, length-name, read-cases}
 use Rattle.index.specs.Good.{goodOf}
 use Rattle.lists.specs.Part.{none}
 use Rattle.lists.specs.Lists.{spanIn, spanFor}
@@ -112,6 +114,20 @@ import-kept log words s o c n = wholes log words s o c .kept n
 -- a name that was read lies within its buffer
 pub name-within : (y : Layout) (line : List ℕ) (room : ℕ) → readOf y line room .len ≤ room
 name-within y line room = read-cases y line room (λ r. r .len ≤ room) (λ e h. h) (λ e h. omega arith) (λ e. omega arith)
+
+-- and has at most as many bytes as its length byte can say
+pub name-short : (y : Layout) (line : List ℕ) (room : ℕ) → y .named ≡ true → readOf y line room .len ≤ longestName
+name-short y line room n =
+    read-cases y line room (λ r. r .len ≤ longestName)
+    (λ e h.
+    let a = length-name y line e n in
+    let b = frame-length y line e in
+    let c = size-named y (bytesOf line) n in
+    let d = length-bytes line in
+    let f = well-formed-bytes line (frame-well-formed y line e) (headSize y) in
+    omega arith)
+    (λ e h. omega arith)
+    (λ e. omega arith)
 
 -- a line that was written lies within its buffer
 pub line-within : (y : Layout) (f name : List ℕ) (room : ℕ) → writeAnswer (writtenOf y f name room) .len ≤ room

@@ -1,5 +1,5 @@
 -- The answers of the layers as the flat structs that C can take: every value under its name, 0 where a refusal has none.
--- Cited by every contract of the crate. What the answers are is in the specs of register, index, search, importer, fields, frames and log_frames.
+-- Cited by every contract of the crate. What the answers are is in the specs of register, index, search, queries, importer, fields, frames and log_frames.
 -- Assumes nothing.
 use Prim.Native.Nat.{ℕ}
 use lib.ListN.{getD}
@@ -9,10 +9,12 @@ use Rattle.lists.specs.Part.{Span}
 use Rattle.register.specs.declared.Built.{Built}
 use Rattle.search.specs.declared.Answer.{Answer}
 use Rattle.search.specs.Answers.{numberIn, rowsIn, touchesIn, thresholdP, thresholdQ}
+use Rattle.queries.specs.declared.Come.{Come}
 use Rattle.importer.specs.declared.Imported.{Imported}
 use Rattle.surface.specs.declared.BuildAnswer.{BuildAnswer}
 use Rattle.surface.specs.declared.ListAnswer.{ListAnswer}
 use Rattle.surface.specs.declared.SearchAnswer.{SearchAnswer}
+use Rattle.surface.specs.declared.ManyAnswer.{ManyAnswer}
 use Rattle.surface.specs.declared.ImportAnswer.{ImportAnswer}
 use Rattle.surface.specs.declared.WriteAnswer.{WriteAnswer}
 use Rattle.surface.specs.declared.NameAnswer.{NameAnswer}
@@ -33,6 +35,10 @@ listAnswer s = record { start = s .start; count = s .count }
 -- a search: the number and the values that the rule sets out for each answer
 abbrev pub searchAnswer : Answer → SearchAnswer
 searchAnswer a = record { number = numberIn a; rows = rowsIn a; touches = touchesIn a; p = thresholdP a; q = thresholdQ a }
+
+-- many queries: its number, and how many outcomes and rows it has written
+abbrev pub manyAnswer : Come → ManyAnswer
+manyAnswer c = record { number = c .number; queries = c .queries; rows = c .rows }
 
 -- an import: its number and line, and how many outcomes and pairs it has written
 abbrev pub importAnswer : Imported → ImportAnswer

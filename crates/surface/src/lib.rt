@@ -11,14 +11,15 @@ ghost use Rattle.register.specs.Build.{builtOf, wordsAfter};
 ghost use Rattle.upkeep.specs.Upkeep.{addedOf, wordsAdded, withdrawnOf, wordsWithdrawn};
 ghost use Rattle.search.specs.Answers.{searchOf, asColumns, roomOf, columnsAfter};
 ghost use Rattle.rows.specs.Rows.{rowsAfter};
+ghost use Rattle.queries.specs.Queries.{asOutcomes as asAsked, comeOf, outcomesAfter as outcomesAsked, columnsAfter as columnsAsked};
 ghost use Rattle.log_frames.specs.Frames.{logFrame};
 ghost use Rattle.weeks.specs.Pairs.{asColumns as asPairs, roomOf as pairRoom};
 ghost use Rattle.importer.specs.Import.{settings, asOutcomes, outcomeRoom, importedOf, outcomesAfter, pairsAfter};
-ghost use Rattle.surface.specs.Flat.{buildAnswer, listAnswer, searchAnswer, importAnswer, writeAnswer, nameAnswer, queryAnswer, rowAnswer, endAnswer, refusalAnswer, logAnswer};
+ghost use Rattle.surface.specs.Flat.{buildAnswer, listAnswer, searchAnswer, manyAnswer, importAnswer, writeAnswer, nameAnswer, queryAnswer, rowAnswer, endAnswer, refusalAnswer, logAnswer};
 use rows::Row;
 use search::Answer;
 
-// ---- the flat answers, each with its number first
+// ---- the flat answers, each with its number first, and none above 16 bytes: so each is returned in two registers, on every processor alike
 
 #[repr(C)]
 pub struct BuildAnswer {
@@ -39,6 +40,13 @@ pub struct SearchAnswer {
     pub touches: u32,
     pub p: u16,
     pub q: u16,
+}
+
+#[repr(C)]
+pub struct ManyAnswer {
+    pub number: u8,
+    pub queries: u32,
+    pub rows: u32,
 }
 
 #[repr(C)]
@@ -69,7 +77,7 @@ pub struct QueryAnswer {
     pub p: u16,
     pub q: u16,
     pub allowance: u32,
-    pub len: usize,
+    pub len: u16,
 }
 
 #[repr(C)]
@@ -236,6 +244,52 @@ pub extern "C" fn rushgirdle_search_rows(
     flat(rows::search_rows(query, measure, p, q, allowance, words, rows))
 }
 
+// Many queries at once: query k goes from the end before it to its own. Outcome k is place k of the columns of numbers, ends of rows and touches; the rows
+// of all stand one after the other in the other four.
+#[no_mangle]
+pub extern "C" fn rushgirdle_search_many(
+    bytes: &[u8],
+    ends: &[u32],
+    measure: u8,
+    p: u16,
+    q: u16,
+    allowance: u32,
+    words: &[u32],
+    numbers: &mut [u32],
+    until: &mut [u32],
+    touches: &mut [u32],
+    ids: &mut [u32],
+    shared: &mut [u32],
+    sizes: &mut [u32],
+    least: &mut [u32],
+) -> ManyAnswer
+    ensures { λ r. ⌜ r ≡ manyAnswer (comeOf (now (bytes .entry)) (now (ends .entry)) measure p q allowance (now (words .entry)) (asAsked (now (numbers .entry)) (now (until .entry)) (now (touches .entry))) (asColumns (now (ids .entry)) (now (shared .entry)) (now (sizes .entry)) (now (least .entry)))) ⌝ }
+    ensures { λ _. ⌜ asAsked (now (numbers .exit)) (now (until .exit)) (now (touches .exit)) ≡ outcomesAsked (now (bytes .entry)) (now (ends .entry)) measure p q allowance (now (words .entry)) (asAsked (now (numbers .entry)) (now (until .entry)) (now (touches .entry))) (asColumns (now (ids .entry)) (now (shared .entry)) (now (sizes .entry)) (now (least .entry))) ⌝ }
+    ensures { λ _. ⌜ asColumns (now (ids .exit)) (now (shared .exit)) (now (sizes .exit)) (now (least .exit)) ≡ columnsAsked (now (bytes .entry)) (now (ends .entry)) measure p q allowance (now (words .entry)) (asAsked (now (numbers .entry)) (now (until .entry)) (now (touches .entry))) (asColumns (now (ids .entry)) (now (shared .entry)) (now (sizes .entry)) (now (least .entry))) ⌝ }
+{
+    let c = queries::search_many(
+        bytes,
+        ends,
+        measure,
+        p,
+        q,
+        allowance,
+        words,
+        numbers,
+        until,
+        touches,
+        ids,
+        shared,
+        sizes,
+        least,
+    );
+    ManyAnswer {
+        number: c.number,
+        queries: c.queries,
+        rows: c.rows,
+    }
+}
+
 // ---- the import
 
 // Imports a log. Outcome k is place k of the columns of cases and values, pair k place k of the other four.
@@ -303,13 +357,14 @@ pub extern "C" fn rushgirdle_read_query(line: &[u8], query: &mut [u8]) -> QueryA
     ensures { λ _. ⌜ now (query .exit) ≡ bufferOf queryFrame (now (line .entry)) (now (query .entry)) ⌝ }
 {
     let r = frames::read_query(line, query);
+    let len = r.len as u16;
     QueryAnswer {
         number: r.number,
         measure: r.measure,
         p: r.p,
         q: r.q,
         allowance: r.allowance,
-        len: r.len,
+        len,
     }
 }
 

@@ -33,7 +33,7 @@ fn many(random: &mut Random) -> usize {
 // One line of the protocol.
 
 /// Index words, and names that a log may type: of a register, of names that no register has, or damaged.
-fn index(random: &mut Random) -> (Vec<u32>, Vec<Vec<u8>>) {
+pub fn index(random: &mut Random) -> (Vec<u32>, Vec<Vec<u8>>) {
     let register = match random.below(24) {
         0..=12 => registers::small(random),
         13..=16 => registers::even(random),

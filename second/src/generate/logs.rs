@@ -34,7 +34,7 @@ pub fn line(day: u16, reading: u16, name: &[u8]) -> Vec<u8> {
 }
 
 /// A typed name: known, like a known one, another, now and then a refused one.
-fn typed(random: &mut Random, known: &[Vec<u8>]) -> Vec<u8> {
+pub fn typed(random: &mut Random, known: &[Vec<u8>]) -> Vec<u8> {
     match random.below(12) {
         0 => names::bad(random),
         1..=6 if !known.is_empty() => random.pick(known),

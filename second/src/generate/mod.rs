@@ -5,6 +5,7 @@ mod cases;
 mod imports;
 pub mod lines;
 pub mod logs;
+mod many;
 pub mod names;
 pub mod queries;
 pub mod registers;
@@ -33,6 +34,7 @@ pub fn input(kind: Kind, seed: u64, at: u64) -> Vec<u8> {
         Kind::Add => upkeep::add,
         Kind::Withdraw => upkeep::withdraw,
         Kind::Calls => upkeep::calls,
+        Kind::Many => many::many,
         Kind::Sweep => {
             let mut of_index = Random::of(seed, kind as u64, at / words::STRETCH);
             return [spaced(&words::swept(&mut of_index, at % words::STRETCH)).into_bytes(), b"\n".to_vec()].concat();

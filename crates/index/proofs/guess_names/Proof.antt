@@ -45,6 +45,22 @@ slice-write-guesses c =
     let e = c .before .before .loop .inv .1 in
     omega arith
 
+cast-guesses-2 : tie.Need-cast-guesses-2 Inv-loop μ-loop
+cast-guesses-2 c =
+    let s = c .before .before .before .before .before .before in
+    let n = c .before .before .before .name-count .ensures .0 in
+    let h = head-facts _ (s .pre .0 .head) .names in
+    omega arith
+
+add-guesses : tie.Need-add-guesses Inv-loop μ-loop
+add-guesses c = omega arith
+
+slice-write-guesses-2 : tie.Need-slice-write-guesses-2 Inv-loop μ-loop
+slice-write-guesses-2 c =
+    let h = c .before .before .before .before .before .before .pre .1 in
+    let e = c .before .before .loop .inv .1 in
+    rw length-set (omega arith)
+
 add-i : tie.Need-add-i Inv-loop μ-loop
 add-i c = omega arith
 
@@ -55,7 +71,7 @@ loop-again : tie.Need-loop-again Inv-loop μ-loop
 loop-again c =
     let n = c .before .before .before .name-count .ensures .0 in
     let t = c .before .loop-test .taken in
-    (omega arith, rw length-set (c .before .before .loop .inv .1))
+    (omega arith, rw (length-set, length-set) (c .before .before .loop .inv .1))
 
 same-length : tie.Need-same-length Inv-loop μ-loop
 same-length c = c .before .loop .inv .1
@@ -75,6 +91,9 @@ guess-names-spec =
     cast-id
     cast-guesses
     slice-write-guesses
+    cast-guesses-2
+    add-guesses
+    slice-write-guesses-2
     add-i
     loop-less
     loop-again

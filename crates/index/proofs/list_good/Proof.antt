@@ -2,7 +2,9 @@
 use mathlib.Core.Path.{_≡_, refl, sym, ap, ap₂, _∙_}
 use mathlib.Core.Logic.{⊎-elim}
 use mathlib.Core.Bool.{false≢true}
+use mathlib.Core.List.{List}
 use Prim.Native.Nat.{ℕ, _+_, _-_, _≤_, _<_}
+use native.Mathlib.Nat.{eq-or-lt-of-le}
 use native.Mathlib.Omega.{arith}
 use lib.ListN.{length, getD, set, length-set}
 use Rattle.words.specs.Words.{rowStart, rowWidth, nameCount, rowLength, rowSize, listStart}
@@ -13,11 +15,15 @@ use Rattle.index.proofs.Tally.{ListTo, idAt, id-read, id-in, list-start
 use Rattle.index.proofs.list_good.Statement.{statement}
 use Rattle.index.proofs.list_good.Tie as tie
 
+-- the least that the next id may be: 0, or one above the id before it
+abbrev Follows : List ℕ → ℕ → ℕ → ℕ → Type 0
+Follows w r k next = (k ≡ 0 → next ≡ 0) × (0 < k → next ≡ idAt w r (k - 1) + 1)
+
 abbrev Inv-loop : tie.InvT-loop
-Inv-loop words guesses r tally₀ names first count size k₀ tally k = ListTo words r k tally × (length tally ≡ length tally₀)
+Inv-loop words guesses r tally₀ names first count size next₀ k₀ tally next k = ListTo words r k tally × (length tally ≡ length tally₀) × Follows words r k next
 
 abbrev μ-loop : tie.MeasureT-loop
-μ-loop words guesses r tally₀ names first count size k₀ tally k = rowLength words r - k
+μ-loop words guesses r tally₀ names first count size next₀ k₀ tally next k = rowLength words r - k
 
 -- the row lies within the slice
 in-row : (s : tie.Start Inv-loop μ-loop) → let w = s .args .words .now in rowStart w (s .args .r) + rowWidth ≤ length w
@@ -45,7 +51,7 @@ row-size-requires : tie.Need-row-size-requires Inv-loop μ-loop
 row-size-requires c κs = in-row (c .before .before .before .before .before .before .before)
 
 loop-holds : tie.Need-loop-holds Inv-loop μ-loop
-loop-holds c = (list-start _ _ _ (c .before .before .before .before .before .before .before .before .pre .4), refl)
+loop-holds c = (list-start _ _ _ (c .before .before .before .before .before .before .before .before .pre .4), refl, ((λ e. refl), (λ z. absurd (omega arith))))
 
 -- the words, the row and what they are known to be, from the loop's head
 abbrev start : tie.At-loop Inv-loop μ-loop → tie.Start Inv-loop μ-loop
@@ -60,6 +66,9 @@ first-at l =
     let s = l .before .before .before .before .postings-start .ensures .0 in
     let p = l .before .before .before .row-place .ensures .0 in
     omega arith
+
+from-zero : (k : ℕ) → 0 ≤ k
+from-zero k = omega arith
 
 -- in the loop, ids up to the present one lie within the slice
 inside : (c : tie.In-loop Inv-loop μ-loop) (k : ℕ) → k ≤ c .before .loop .k → first (c .before) + k < length (start (c .before) .args .words .now)
@@ -84,32 +93,27 @@ mul-id c = let h = inside c (c .before .loop .k) (omega arith) in omega arith
 shared-slice-read-id : tie.Need-shared-slice-read-id Inv-loop μ-loop
 shared-slice-read-id c = let h = inside (c .before) (c .before .before .loop .k) (omega arith) in omega arith
 
-sub-if2 : tie.Need-sub-if2 Inv-loop μ-loop
-sub-if2 c = omega arith
-
-add-if2 : tie.Need-add-if2 Inv-loop μ-loop
-add-if2 c = let h = inside (c .before .before) (c .before .before .before .loop .k - 1) (omega arith) in omega arith
-
-mul-if2 : tie.Need-mul-if2 Inv-loop μ-loop
-mul-if2 c = let h = inside (c .before .before) (c .before .before .before .loop .k - 1) (omega arith) in omega arith
-
-shared-slice-read-if2 : tie.Need-shared-slice-read-if2 Inv-loop μ-loop
-shared-slice-read-if2 c = let h = inside (c .before .before .before) (c .before .before .before .before .loop .k - 1) (omega arith) in omega arith
+cast-if1 : tie.Need-cast-if1 Inv-loop μ-loop
+cast-if1 c =
+    let l = c .before .before in
+    omega (arith, l .before .before .before .before .before .before .before .before .shared-slice-known .given (first l + l .loop .k))
 
 same-length : tie.Need-same-length Inv-loop μ-loop
-same-length c = c .before .before .before .before .before .loop .inv .1
+same-length c = c .before .before .before .loop .inv .1
 
 returns : tie.Need-returns Inv-loop μ-loop
 returns c =
-    let i = c .before .before .before .before in
+    let i = c .before .before in
     let l = i .before in
     let s = start l in
     let n = l .before .before .row-length .ensures .0 in
     let t = i .loop-test .taken in
     let a = read l (l .loop .k) in
-    let b = read l (l .loop .k - 1) in
-    let h = c .if2 .taken in
-    (sym (list-out (s .args .words .now) (s .args .r) (l .loop .k) (omega arith) (c .before .before .if1 .taken) (omega arith)), λ e. absurd (false≢true e))
+    let h = c .if1 .taken in
+    let f = l .loop .inv .2 in
+    let later : 0 < l .loop .k = ⊎-elim (λ (e : 0 ≡ l .loop .k). let z = f .0 (sym e) in absurd (omega arith)) (λ (d : 0 < l .loop .k). d) (eq-or-lt-of-le (from-zero (l .loop .k))) in
+    let b = f .1 later in
+    (sym (list-out (s .args .words .now) (s .args .r) (l .loop .k) (omega arith) later (omega arith)), λ e. absurd (false≢true e))
 
 name-near-requires : tie.Need-name-near-requires Inv-loop μ-loop
 name-near-requires c κs = let s = start (c .before .before .before) in (s .pre .0 .named, s .pre .1)
@@ -125,7 +129,7 @@ found c =
     c .name-near .ensures ∙ ap₂ (nameFor (start l .args .words .now)) (l .before .row-size .ensures) (read l (l .loop .k))
 
 -- and is one more in the tally
-step : (c : tie.Else3 Inv-loop μ-loop)
+step : (c : tie.Else2 Inv-loop μ-loop)
     → let l = c .before .before .before .before .before in
     let s = start l in
     let at = c .before .name-near .result in
@@ -142,13 +146,8 @@ step c =
     let x = l .loop .inv .1 in
     let long = s .pre .3 in
     let a = read l (l .loop .k) in
-    let b = read l (l .loop .k - 1) in
     let above : 0 < l .loop .k → idAt w r (l .loop .k - 1) < idAt w r (l .loop .k) =
-    λ z.
-    ⊎-elim
-    (λ v. let d = v .2 .left in omega arith)
-    (λ v. let d = v .left in absurd (omega arith))
-    (c .before .before .if1 .came)
+    λ z. (let d = c .before .before .if1 .left in let f = l .loop .inv .2 .1 z in omega arith)
     in
     let more : l .loop .k < rowLength w r = omega arith in
     let name : c .before .name-near .result < nameCount w = omega arith in (
@@ -190,6 +189,16 @@ add-tally c =
 slice-write-tally : tie.Need-slice-write-tally Inv-loop μ-loop
 slice-write-tally c = step (c .before) .0
 
+cast-next : tie.Need-cast-next Inv-loop μ-loop
+cast-next c =
+    let l = c .before .before .before .before .before .before in
+    omega (arith, l .before .before .before .before .before .before .before .before .shared-slice-known .given (first l + l .loop .k))
+
+add-next : tie.Need-add-next Inv-loop μ-loop
+add-next c =
+    let l = c .before .before .before .before .before .before in
+    omega (arith, l .before .before .before .before .before .before .before .before .shared-slice-known .given (first l + l .loop .k))
+
 add-k : tie.Need-add-k Inv-loop μ-loop
 add-k c = omega arith
 
@@ -197,7 +206,14 @@ loop-less : tie.Need-loop-less Inv-loop μ-loop
 loop-less c = omega arith
 
 loop-again : tie.Need-loop-again Inv-loop μ-loop
-loop-again c = let l = c .before .before .before .before .before .before in (step (c .before) .2, rw length-set (l .loop .inv .1))
+loop-again c =
+    let l = c .before .before .before .before .before .before in
+    let s = start l in
+    let e : l .loop .k + 1 - 1 ≡ l .loop .k = omega arith in (
+      step (c .before) .2,
+      rw length-set (l .loop .inv .1),
+      ((λ z. absurd (omega arith)), (λ z. ap (λ (i : ℕ). i + 1) (read l (l .loop .k) ∙ ap (idAt (s .args .words .now) (s .args .r)) (sym e)))),
+    )
 
 same-length-3 : tie.Need-same-length-3 Inv-loop μ-loop
 same-length-3 c = c .before .loop .inv .1
@@ -227,10 +243,7 @@ list-good-spec =
     add-id
     mul-id
     shared-slice-read-id
-    sub-if2
-    add-if2
-    mul-if2
-    shared-slice-read-if2
+    cast-if1
     same-length
     returns
     name-near-requires
@@ -240,6 +253,8 @@ list-good-spec =
     slice-read-tally
     add-tally
     slice-write-tally
+    cast-next
+    add-next
     add-k
     loop-less
     loop-again
