@@ -188,32 +188,45 @@ fn question(query: &[u8], measure: u8, p: u16, q: u16) -> u8 {
     }
 }
 
-/// The counts of one size's answers put at their names' places, and the touches; nothing past the budget.
+/// How many rows have a size below this one, where so many are known to have: sought in steps that double.
+fn rows_under(index: &Index<'_>, size: u32, known: usize) -> usize {
+    let rest = &index.rows[known..];
+    let mut n = 0;
+    while n < rest.len() && rest[n][0] < size {
+        n += n + 16;
+    }
+    known + rest[..n.min(rest.len())].partition_point(|row| row[0] < size)
+}
+
+/// The counts of one size's answers put at their names' places, and the touches; nothing past the budget. `under` is how many rows are
+/// known to have a smaller size, and then how many have this one or a smaller.
 fn one_size(
     index: &Index<'_>,
     features: &[u32],
     size: u32,
     least: usize,
     budget: usize,
+    under: &mut usize,
     answers: &mut [u32; NAMES],
 ) -> Option<usize> {
     let x = features.len();
     let mut starts = [0u32; FEATURES];
     let mut keys = [0u32; FEATURES];
-    let rows = &index.rows[index.rows.partition_point(|row| row[0] < size)..];
-    let rows = &rows[..rows.partition_point(|row| row[0] == size)];
+    let from = rows_under(index, size, *under);
+    *under = rows_under(index, size + 1, from);
+    let rows = &index.rows[from..*under];
     let Some(last) = rows.len().checked_sub(1) else { return Some(0) };
-    let mut filled = 0;
+    let mut empty = 0;
     for (at, feature) in features.iter().enumerate() {
         let row = rows[rows.partition_point(|row| row[1] < *feature).min(last)];
         let found = u32::from(row[1] == *feature);
         starts[at] = row[2] * found;
         keys[at] = row[3] * found << 8 | at as u32;
-        filled += found as usize;
-    }
-    // where fewer lists than the least count have ids, the signature lists are empty
-    if filled < least {
-        return Some(0);
+        // where fewer lists than the least count have ids, the signature lists are empty
+        empty += 1 - found as usize;
+        if empty > x - least {
+            return Some(0);
+        }
     }
     keys[..x].sort_unstable();
     let list = |key: u32| {
@@ -295,11 +308,12 @@ fn run(query: &[u8], measure: u8, p: u16, q: u16, allowance: u32, index: &Index<
     let (wide_p, wide_q) = (u64::from(p), u64::from(q));
     let mut answers = [0u32; NAMES];
     let mut leasts = [0u32; FEATURES + 1];
-    let mut touches = 0;
+    let (mut touches, mut under) = (0, 0);
     for y in (3..=FEATURES).filter(|y| present[*y]) {
         if searched(measure, wide_p, wide_q, x as u64, y as u64) {
             leasts[y] = least_count(measure, wide_p, wide_q, x as u64, y as u64) as u32;
-            match one_size(index, &set[..x], y as u32, leasts[y] as usize, allowance as usize - touches, &mut answers) {
+            let budget = allowance as usize - touches;
+            match one_size(index, &set[..x], y as u32, leasts[y] as usize, budget, &mut under, &mut answers) {
                 None => return refused(7, allowance),
                 Some(more) => touches += more,
             }

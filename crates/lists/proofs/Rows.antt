@@ -1,5 +1,5 @@
 -- The rows of a good index: where their words and lists lie, and the row of a size and a feature.
--- Cited by the proofs of `rows_of_size` and `place_among`, and of the crate `seats`.
+-- Cited by the proofs of `rows_between` and `place_among`, and of the crate `seats`.
 -- Assumes nothing.
 use mathlib.Core.Path.{_≡_, ap}
 use mathlib.Core.Logic.{⊎-elim}

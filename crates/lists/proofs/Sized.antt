@@ -1,7 +1,7 @@
 -- The rows of a size stand together, and a search of them alone finds the row of a feature.
--- Cited by the proofs of `rows_of_size` and `place_among`, and of the crate `seats`.
+-- Cited by the proofs of `rows_under`, `rows_between`, `rows_of_size` and `place_among`, and of the crates `seats` and `sizes`.
 -- Assumes nothing.
-use mathlib.Core.Path.{_≡_, ap, _∙_}
+use mathlib.Core.Path.{_≡_, sym, ap, _∙_}
 use mathlib.Core.Logic.{⊎-elim, inl, inr}
 use mathlib.Core.Bool.{Bool, true, false, cond}
 use mathlib.Core.List.{List}
@@ -10,10 +10,10 @@ use native.Mathlib.Nat.{eq-or-lt-of-le}
 use native.Mathlib.Omega.{arith}
 use lib.ListN.{length, getD}
 use lib.Dec.{ltb, eqb}
-use borrow.Author.Tests.{lt-ltb, ltb-true, ltb-false, eqb-true, eqb-false}
+use borrow.Author.Tests.{lt-ltb, le-ltb, ltb-true, ltb-false, eqb-true, eqb-false}
 use Rattle.laws.specs.Below.{countBelow}
-use Rattle.laws.proofs.Below.{count-below-most, count-below-mono, sum-below-ext}
-use Rattle.laws.proofs.BinarySearch.{Falling, Stretch, falling-count}
+use Rattle.laws.proofs.Below.{count-below-most, count-below-mono}
+use Rattle.laws.proofs.BinarySearch.{Falling, Stretch, falling-count, count-below-place}
 use Rattle.laws.proofs.Order.{le-or-lt}
 use Rattle.binary_search.specs.Column.{columnAt, Rising}
 use Rattle.binary_search.proofs.Search.{column-split}
@@ -68,12 +68,14 @@ module _ (w : List ℕ) (g : Good w) where
   pub size-from : (y r : ℕ) → rowsUnder w y ≤ r → r < rowCount w → y ≤ rowSize w r
   size-from y r l m = let h = ltb-false (rowSize w r) y (under y .above r (omega arith) m) in omega arith
 
-  -- ---- the column of the sizes, of n words from s on
+  -- ---- the column of the sizes of n rows from k on, whose words start at s
 
-  module _ (n s : ℕ) (all : n ≡ rowCount w) (start : s ≡ rowStart w 0) where
-    size-here : (r : ℕ) → columnAt w (s + sizeColumn) rowWidth r ≡ rowSize w r
+  module _ (k n s : ℕ) (inside : k + n ≤ rowCount w) (start : s ≡ rowStart w k) where
+    size-here : (i : ℕ) → columnAt w (s + sizeColumn) rowWidth i ≡ rowSize w (k + i)
     unfolding columnAt
-    size-here r = ap (λ (k : ℕ). getD w (k + sizeColumn + rowWidth * r) 0) start ∙ size-at w r
+    size-here i =
+        let e : s + sizeColumn + rowWidth * i ≡ rowStart w 0 + sizeColumn + rowWidth * (k + i) = omega arith in
+        ap (λ (j : ℕ). getD w j 0) e ∙ size-at w (k + i)
 
     -- it can be searched
     pub sizes-searched : (n ≤ length w) × ((i : ℕ) → i < n → s + sizeColumn + rowWidth * i < length w) × Rising (columnAt w (s + sizeColumn) rowWidth) n
@@ -82,17 +84,43 @@ module _ (w : List ℕ) (g : Good w) where
         let h = good-within w g in (
           omega arith,
           λ i l. omega arith,
-          λ i j l m. rw (size-here i, size-here j) (size-rises i j l (omega arith)),
+          λ i j l m. rw (size-here i, size-here j) (size-rises (k + i) (k + j) (omega arith) (omega arith)),
         )
 
-    -- and the search finds where the rows of a size begin
-    pub under-found : (y r : ℕ) → r ≡ countBelow n (λ (i : ℕ). ltb (columnAt w (s + sizeColumn) rowWidth i) y) → r ≡ rowsUnder w y
-    unfolding rowsUnder
-    under-found y r e =
-        e
-        ∙ ap (λ (k : ℕ). countBelow k (λ (i : ℕ). ltb (columnAt w (s + sizeColumn) rowWidth i) y)) all
-        ∙ sum-below-ext (rowCount w) (λ (i : ℕ). cond (ltb (columnAt w (s + sizeColumn) rowWidth i) y) 1 0) (λ (i : ℕ). cond (ltb (rowSize w i) y) 1 0)
-        (λ i h. ap (λ (v : ℕ). cond (ltb v y) 1 0) (size-here i))
+    -- and where the rows before it have smaller sizes, and the one behind it has not, the search finds where the rows of a size begin
+    pub under-found : (y r : ℕ) → k ≤ rowsUnder w y → (k + n < rowCount w → y ≤ rowSize w (k + n))
+        → r ≡ countBelow n (λ (i : ℕ). ltb (columnAt w (s + sizeColumn) rowWidth i) y) → k + r ≡ rowsUnder w y
+    under-found y r low high e =
+        let m = found .0 in
+        sym (unfold rowsUnder in count-below-place (λ (i : ℕ). ltb (rowSize w i) y) (rowCount w) (k + r) (omega arith) below above)
+      where
+        found : (r ≤ n) × ((i : ℕ) → i < r → columnAt w (s + sizeColumn) rowWidth i < y) × ((i : ℕ) → r ≤ i → i < n → y ≤ columnAt w (s + sizeColumn) rowWidth i)
+        found = column-split (columnAt w (s + sizeColumn) rowWidth) n y r (sizes-searched .2) e
+
+        below : (i : ℕ) → i < k + r → ltb (rowSize w i) y ≡ true
+        below i l =
+            ⊎-elim
+            (λ (h : k ≤ i).
+            let j : k + (i - k) ≡ i = omega arith in
+            let a = found .1 (i - k) (omega arith) in
+            let b = size-here (i - k) ∙ ap (rowSize w) j in
+            lt-ltb (rowSize w i) y (omega arith))
+            (λ (h : i < k). let a = size-under y i (omega arith) in lt-ltb (rowSize w i) y a)
+            (le-or-lt k i)
+
+        above : (i : ℕ) → k + r ≤ i → i < rowCount w → ltb (rowSize w i) y ≡ false
+        above i l m =
+            ⊎-elim
+            (λ (h : k + n ≤ i).
+            let a = high (omega arith) in
+            let b = size-rises (k + n) i h m in
+            le-ltb (rowSize w i) y (omega arith))
+            (λ (h : i < k + n).
+            let j : k + (i - k) ≡ i = omega arith in
+            let a = found .2 (i - k) (omega arith) (omega arith) in
+            let b = size-here (i - k) ∙ ap (rowSize w) j in
+            le-ltb (rowSize w i) y (omega arith))
+            (le-or-lt (k + n) i)
 
   -- ---- the size's rows as a part of the words
 

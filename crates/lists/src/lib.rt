@@ -5,12 +5,12 @@ ghost use Prim.Native.Nat.{_+_, _^_, _≤_, _<_};
 ghost use lib.Dec.{eqb};
 ghost use lib.ListN.{length};
 ghost use Rattle.laws.specs.Lists.{Ascending};
-ghost use Rattle.words.specs.Words.{postingsStart, rowWidth, rowStart, rowLength, listStart, listAt, partRows, partFeature, partPlace, partLength};
+ghost use Rattle.words.specs.Words.{rowCount, rowSize, postingsStart, rowWidth, rowStart, rowLength, listStart, listAt, partRows, partFeature, partPlace, partLength};
 ghost use Rattle.binary_search.specs.Seats.{seatOf};
 ghost use Rattle.index.specs.Good.{Good};
 ghost use Rattle.lists.specs.Part.{cut, Part};
 ghost use Rattle.lists.specs.Lists.{spanIn, spanFor};
-ghost use Rattle.lists.specs.Sizes.{sizeSpan};
+ghost use Rattle.lists.specs.Sizes.{rowsUnder, sizeSpan};
 use binary_search::Seat;
 
 // ---- the rows of one size
@@ -21,18 +21,51 @@ pub struct Place {
     pub count: usize,
 }
 
-// The rows of a size of a good index, as that part of the words. Neither search waits for the other.
+// So many rows from `known` on that the one behind them, where there is one, has no size below this one. Found in steps that double, as the rows of a
+// size are few among all: none where the first of them has no size below.
+fn reach(words: &[u32], size: u64, known: usize) -> usize
+    requires { ⌜ Good (now words) × (known ≤ rowCount (now words)) ⌝ }
+    ensures { λ r. ⌜ (known + r ≤ rowCount (now (words .entry))) × (known + r < rowCount (now (words .entry)) → size ≤ rowSize (now (words .entry)) (known + r)) ⌝ }
+{
+    let rest = words::row_count(words) - known;
+    let mut n = 0;
+    while n < rest {
+        if size <= words::row_size(words, known + n) as u64 {
+            return n;
+        }
+        n += n + 16;
+    }
+    rest
+}
+
+// How many rows of a good index have a size below this one, where so many are known to have.
+pub fn rows_under(words: &[u32], size: u64, known: usize) -> usize
+    requires { ⌜ Good (now words) × (known ≤ rowsUnder (now words) size) ⌝ }
+    ensures { λ r. ⌜ r ≡ rowsUnder (now (words .entry)) size ⌝ }
+{
+    let n = reach(words, size, known);
+    let first = words::row_start(words, known) + words::SIZE_COLUMN;
+    known + binary_search::place_in_column(words, first, words::ROW_WIDTH, n, size)
+}
+
+// The rows of a size of a good index, those from `from` on and before `to`, as that part of the words.
+pub fn rows_between(words: &[u32], size: u32, from: usize, to: usize) -> &[u32]
+    requires { ⌜ Good (now words) × (from ≡ rowsUnder (now words) size) × (to ≡ rowsUnder (now words) (size + 1)) ⌝ }
+    ensures { λ l. ⌜ Part (words .entry) l (sizeSpan (now (words .entry)) size) ⌝ }
+{
+    let start = words::row_start(words, from);
+    let end = words::row_start(words, to);
+    &words[start..end]
+}
+
+// The same, sought first.
 pub fn rows_of_size(words: &[u32], size: u32) -> &[u32]
     requires { ⌜ Good (now words) ⌝ }
     ensures { λ l. ⌜ Part (words .entry) l (sizeSpan (now (words .entry)) size) ⌝ }
 {
-    let n = words::row_count(words);
-    let first = words::row_start(words, 0) + words::SIZE_COLUMN;
-    let from = binary_search::place_in_column(words, first, words::ROW_WIDTH, n, size as u64);
-    let to = binary_search::place_in_column(words, first, words::ROW_WIDTH, n, size as u64 + 1);
-    let start = words::row_start(words, from);
-    let end = words::row_start(words, to);
-    &words[start..end]
+    let from = rows_under(words, size as u64, 0);
+    let to = rows_under(words, size as u64 + 1, from);
+    rows_between(words, size, from, to)
 }
 
 // Where a row's list lies if the row has the feature, the postings starting at `first`; no words at 0 otherwise. There is no jump to guess.

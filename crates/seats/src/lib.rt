@@ -117,10 +117,8 @@ pub fn put_seats(
     ensures { λ r. ⌜ (r ≡ n + length (rowCuts (length (now (features .entry))) (allRowsIn (now (words .entry))) (now (features .entry)))) × (take r (now (at .exit)) ≡ take n (now (at .entry)) ++ map (λ (p : ℕ). nameStart (nameCount (now (words .entry))) + p) (rowCuts (length (now (features .entry))) (allRowsIn (now (words .entry))) (now (features .entry)))) × (take r (now (values .exit)) ≡ take n (now (values .entry)) ++ newRows (length (now (features .entry))) (allRowsIn (now (words .entry))) (now (features .entry))) × (now (postings .exit) ≡ postingCuts (length (now (features .entry))) id (allRowsIn (now (words .entry))) (now (features .entry))) ⌝ }
 {
     let size = features.len() as u32;
-    let d = words::row_count(words);
-    let first = words::row_start(words, 0) + words::SIZE_COLUMN;
-    let from = binary_search::place_in_column(words, first, words::ROW_WIDTH, d, size as u64);
-    let to = binary_search::place_in_column(words, first, words::ROW_WIDTH, d, size as u64 + 1);
+    let from = lists::rows_under(words, size as u64, 0);
+    let to = lists::rows_under(words, size as u64 + 1, from);
     let mut m = n;
     let mut j = 0;
     while j < features.len() {

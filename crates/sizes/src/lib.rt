@@ -2,7 +2,7 @@
 // counts. Over a good index, its names' ids and features in order. The rule: docs/RULE.md, "The counted search"; the definitions: specs/.
 ghost use mathlib.Core.Path.{_≡_};
 ghost use mathlib.Core.List.{_++_};
-ghost use Prim.Native.Nat.{ℕ, _≤_, _<_};
+ghost use Prim.Native.Nat.{ℕ, _+_, _≤_, _<_};
 ghost use lib.ListN.{length, getD, drop, replicate};
 ghost use lib.Dec.{leb};
 ghost use mathlib.Core.Bool.{true, cond, _&&_};
@@ -12,6 +12,7 @@ ghost use Rattle.laws.specs.Lists.{tabulate};
 ghost use Rattle.laws.specs.Sort.{sortOf};
 ghost use Rattle.names.specs.Features.{mostFeatures};
 ghost use Rattle.index.specs.Good.{Good, mostNames, idsIn};
+ghost use Rattle.lists.specs.Sizes.{rowsUnder};
 ghost use Rattle.sizes.specs.Method.{sizesEnd};
 ghost use Rattle.sizes.specs.Tables.{sizesBelow, presentAt, leastsOf, Reachable, startOf, smallKey, filledOf, Asked, Lent, Sized, Covered};
 use candidates::Spent;
@@ -81,32 +82,62 @@ pub fn least_counts(words: &[u32], measure: u8, p: u16, q: u16, x: u8) -> [u32; 
 
 // ---- the lists of a size
 
-// Where the features' lists at a size start, and the key of each: its length × 256 + its place among the features. Answers how many
-// of the lists have ids.
+// Some rows of an index: those from one on and before another.
+struct Rows {
+    from: usize,
+    to: usize,
+}
+
+// The rows of a size that is searched, where so many rows are known to have a smaller one. Where the least count is 0 nothing is sought.
+fn rows_at(words: &[u32], size: u32, least: usize, known: usize) -> Rows
+    requires { ⌜ Good (now words) × (known ≤ rowsUnder (now words) size) ⌝ }
+    ensures { λ r. ⌜ (1 ≤ least → (r .from ≡ rowsUnder (now (words .entry)) size) × (r .to ≡ rowsUnder (now (words .entry)) (size + 1))) × (r .to ≤ rowsUnder (now (words .entry)) (size + 1)) ⌝ }
+{
+    if least == 0 {
+        return Rows {
+            from: known,
+            to: known,
+        };
+    }
+    let from = lists::rows_under(words, size as u64, known);
+    let to = lists::rows_under(words, size as u64 + 1, from);
+    Rows { from, to }
+}
+
+// Where the features' lists at a size start, whose rows are those from `from` on and before `to`, and the key of each: its length × 256 + its place
+// among the features. Answers whether as many as `least` of the lists have ids, and stops as soon as too many have none: what it has put by then is of
+// no use.
 fn find_lists(
     words: &[u32],
     features: &[u64],
     size: u32,
+    from: usize,
+    to: usize,
+    least: usize,
     starts: &mut [usize],
     keys: &mut [u64],
-) -> usize
-    requires { ⌜ Good (now words) × (length (now features) ≤ mostFeatures) × (length (now starts) ≡ mostFeatures) × (length (now keys) ≡ length (now features)) ⌝ }
-    ensures { λ r. ⌜ (now (starts .exit) ≡ tabulate (startOf (now (words .entry)) size (now (features .entry))) (length (now (features .entry))) ++ drop (length (now (features .entry))) (now (starts .entry))) × (now (keys .exit) ≡ tabulate (smallKey (now (words .entry)) size (now (features .entry))) (length (now (features .entry))) ++ drop (length (now (features .entry))) (now (keys .entry))) ⌝ }
-    ensures { λ r. ⌜ r ≡ filledOf (now (words .entry)) size (now (features .entry)) (length (now (features .entry))) ⌝ }
+) -> bool
+    requires { ⌜ Good (now words) × (length (now features) ≤ mostFeatures) × (least ≤ length (now features)) × (length (now starts) ≡ mostFeatures) × (length (now keys) ≡ length (now features)) × (from ≡ rowsUnder (now words) size) × (to ≡ rowsUnder (now words) (size + 1)) ⌝ }
+    ensures { λ r. ⌜ r ≡ leb least (filledOf (now (words .entry)) size (now (features .entry)) (length (now (features .entry)))) ⌝ }
+    ensures { λ r. ⌜ (r ≡ true → (now (starts .exit) ≡ tabulate (startOf (now (words .entry)) size (now (features .entry))) (length (now (features .entry))) ++ drop (length (now (features .entry))) (now (starts .entry))) × (now (keys .exit) ≡ tabulate (smallKey (now (words .entry)) size (now (features .entry))) (length (now (features .entry))) ++ drop (length (now (features .entry))) (now (keys .entry)))) ⌝ }
 {
-    let rows = lists::rows_of_size(words, size);
+    let rows = lists::rows_between(words, size, from, to);
     let first = words::postings_start(words);
-    let mut filled = 0;
+    let spared = features.len() - least;
+    let mut empty = 0;
     let mut j = 0;
     while j < features.len() {
         let place = lists::place_among(words, rows, first, size, features[j]);
         let key = place.count as u64 * 256 + j as u64;
         starts[j] = place.start;
         keys[j] = key;
-        filled += binary_search::one_if(255 < key);
+        empty += binary_search::one_if(key < 256);
+        if spared < empty {
+            return false;
+        }
         j += 1;
     }
-    filled
+    true
 }
 
 // ---- one size
@@ -117,29 +148,32 @@ fn order_lists(
     words: &[u32],
     features: &[u64],
     size: u32,
+    from: usize,
+    to: usize,
     least: usize,
     starts: &mut [usize],
     keys: &mut [u64],
     spare: &mut [u64],
 ) -> bool
-    requires { ⌜ Good (now words) × (length (now features) ≤ mostFeatures) × (length (now starts) ≡ mostFeatures) × (length (now keys) ≡ length (now features)) × (length (now spare) ≡ length (now features)) ⌝ }
+    requires { ⌜ Good (now words) × (length (now features) ≤ mostFeatures) × (least ≤ length (now features)) × (length (now starts) ≡ mostFeatures) × (length (now keys) ≡ length (now features)) × (length (now spare) ≡ length (now features)) × (from ≡ rowsUnder (now words) size) × (to ≡ rowsUnder (now words) (size + 1)) ⌝ }
     ensures { λ r. ⌜ r ≡ leb least (filledOf (now (words .entry)) size (now (features .entry)) (length (now (features .entry)))) ⌝ }
     ensures { λ r. ⌜ (r ≡ true → (now (keys .exit) ≡ sortOf (tabulate (smallKey (now (words .entry)) size (now (features .entry))) (length (now (features .entry))))) × ((j : ℕ) → j < length (now (features .entry)) → getD (now (starts .exit)) j 0 ≡ startOf (now (words .entry)) size (now (features .entry)) j)) ⌝ }
 {
-    let filled = find_lists(words, features, size, starts, keys);
-    if filled < least {
+    if !find_lists(words, features, size, from, to, least, starts, keys) {
         return false;
     }
     sorting::sort(keys, spare);
     true
 }
 
-// One size: its lists in order, then the two phases; nothing where the least count is 0.
+// One size, whose rows are those from `from` on and before `to`: its lists in order, then the two phases; nothing where the least count is 0.
 fn one_size(
     words: &[u32],
     ids: &[u32],
     features: &[u64],
     size: u32,
+    from: usize,
+    to: usize,
     least: usize,
     budget: usize,
     starts: &mut [usize],
@@ -151,6 +185,7 @@ fn one_size(
 ) -> Spent
     requires { ⌜ Good (now words) × (now ids ≡ idsIn (now words)) × Asked (now features) × (least ≤ length (now features)) × (length (now answers) ≡ mostNames) ⌝ }
     requires { ⌜ Lent (now features) (now starts) (now keys) (now spare) (now counts) (now met) ⌝ }
+    requires { ⌜ (1 ≤ least → (from ≡ rowsUnder (now words) size) × (to ≡ rowsUnder (now words) (size + 1))) ⌝ }
     ensures { λ r. ⌜ Sized (now (words .entry)) size (now (features .entry)) least budget (now (answers .entry)) (now (answers .exit)) (now (counts .exit)) (r .past) (r .touches) ⌝ }
 {
     if least == 0 {
@@ -159,7 +194,7 @@ fn one_size(
             touches: 0,
         };
     }
-    if !order_lists(words, features, size, least, starts, keys, spare) {
+    if !order_lists(words, features, size, from, to, least, starts, keys, spare) {
         return Spent {
             past: false,
             touches: 0,
@@ -180,7 +215,8 @@ fn one_size(
 
 // ---- all sizes
 
-// All sizes upward, each with its least count, as long as their touches are within the allowance; over tables that are lent.
+// All sizes upward, each with its least count, as long as their touches are within the allowance; over tables that are lent. The rows of a size are
+// sought from where those of the one before it end.
 fn each_size(
     words: &[u32],
     ids: &[u32],
@@ -200,14 +236,18 @@ fn each_size(
 {
     let end = sizes_below(words);
     let mut touches = 0;
+    let mut under = 0;
     let mut y = 0;
     while y < end {
         let least = leasts[y] as usize;
+        let rows = rows_at(words, y as u32, least, under);
         let spent = one_size(
             words,
             ids,
             features,
             y as u32,
+            rows.from,
+            rows.to,
             least,
             allowance - touches,
             starts,
@@ -224,6 +264,7 @@ fn each_size(
             };
         }
         touches += spent.touches;
+        under = rows.to;
         y += 1;
     }
     Spent {

@@ -9,9 +9,8 @@ use lib.Seq.{take-suc, take-all, length-take-le}
 use Rattle.laws.proofs.Images.{getD-map-lt}
 use Rattle.laws.proofs.Tables.{tableOver, over-nil, over-step}
 use Rattle.words.specs.Words.{nameStart, nameCount}
-use Rattle.index.proofs.Laws.{good-three, good-postings-most}
-use Rattle.lists.specs.Sizes.{rowsUnder}
-use Rattle.lists.proofs.Sized.{sizes-searched, under-found}
+use Rattle.index.proofs.Laws.{good-postings-most}
+use Rattle.lists.proofs.Sized.{under-next}
 use Rattle.index_writer.specs.Contents.{allRowsIn}
 use Rattle.index_writer.proofs.Over.{over-all}
 use Rattle.changes.specs.Cuts.{postingSeat, postingCuts}
@@ -26,7 +25,7 @@ abbrev seatAt : List ℕ → ℕ → List ℕ → ℕ → ℕ
 seatAt words id features i = postingSeat (length features) id (allRowsIn words) (getD features i 0)
 
 abbrev Inv-loop : tie.InvT-loop
-Inv-loop words id features at₀ values₀ n postings₀ size d first from to m₀ j₀ at values postings m j =
+Inv-loop words id features at₀ values₀ n postings₀ size from to m₀ j₀ at values postings m j =
     (j ≤ length features)
     × (length at ≡ length at₀)
     × (length values ≡ length values₀)
@@ -35,7 +34,7 @@ Inv-loop words id features at₀ values₀ n postings₀ size d first from to m�
     × (postings ≡ tableOver (seatAt words id features) j postings₀)
 
 abbrev μ-loop : tie.MeasureT-loop
-μ-loop words id features at₀ values₀ n postings₀ size d first from to m₀ j₀ at values postings m j = length features - j
+μ-loop words id features at₀ values₀ n postings₀ size from to m₀ j₀ at values postings m j = length features - j
 
 -- one value more of a table
 over-more : (g : ℕ → ℕ) (k : ℕ) (l p : List ℕ) (v : ℕ) → k < length l → p ≡ tableOver g k l → v ≡ g k → set p k v ≡ tableOver g (k + 1) l
@@ -49,41 +48,28 @@ seats-all g fs l e =
 cast-size : tie.Need-cast-size Inv-loop μ-loop
 cast-size c = omega arith
 
-row-count-requires : tie.Need-row-count-requires Inv-loop μ-loop
-row-count-requires c κs = good-three _ (c .before .before .before .before .before .pre .0)
+cast-rows-under : tie.Need-cast-rows-under Inv-loop μ-loop
+cast-rows-under c = omega arith
 
-row-start-requires : tie.Need-row-start-requires Inv-loop μ-loop
-row-start-requires c κs = (good-three _ (c .before .before .before .before .before .before .pre .0), omega arith)
+rows-under-requires : tie.Need-rows-under-requires Inv-loop μ-loop
+rows-under-requires c κs = (c .before .before .before .before .before .pre .0, omega arith)
 
-add-first : tie.Need-add-first Inv-loop μ-loop
-add-first c = omega arith
+cast-rows-under-2 : tie.Need-cast-rows-under-2 Inv-loop μ-loop
+cast-rows-under-2 c = omega arith
 
-cast-place-in-column : tie.Need-cast-place-in-column Inv-loop μ-loop
-cast-place-in-column c = omega arith
+add-rows-under : tie.Need-add-rows-under Inv-loop μ-loop
+add-rows-under c = omega arith
 
-place-in-column-requires : tie.Need-place-in-column-requires Inv-loop μ-loop
-place-in-column-requires c κs =
-    let b = c .before .before .before .before .before .before .before in
-    let k = c .before .row-count in
-    let s = c .row-start in
-    sizes-searched (b .args .words .now) (b .pre .0) (k .result) (s .result) (k .ensures .0) (s .ensures .0)
-
-cast-place-in-column-2 : tie.Need-cast-place-in-column-2 Inv-loop μ-loop
-cast-place-in-column-2 c = omega arith
-
-add-place-in-column : tie.Need-add-place-in-column Inv-loop μ-loop
-add-place-in-column c = omega arith
-
-place-in-column-requires-2 : tie.Need-place-in-column-requires-2 Inv-loop μ-loop
-place-in-column-requires-2 c κs =
-    let b = c .before .before .before .before .before .before .before .before in
-    let k = c .before .before .row-count in
-    let s = c .before .row-start in
-    sizes-searched (b .args .words .now) (b .pre .0) (k .result) (s .result) (k .ensures .0) (s .ensures .0)
+rows-under-requires-2 : tie.Need-rows-under-requires-2 Inv-loop μ-loop
+rows-under-requires-2 c κs =
+    let b = c .before .before .before .before .before .before in
+    let e = c .rows-under .ensures in
+    let n = under-next (b .args .words .now) (length (b .args .features .now)) in
+    (b .pre .0, omega arith)
 
 loop-holds : tie.Need-loop-holds Inv-loop μ-loop
 loop-holds c =
-    let a = c .before .before .before .before .before .before .before .before .before .args in
+    let a = c .before .before .before .before .before .before .before .args in
     let w = a .words .now in (
       omega arith,
       refl,
@@ -99,29 +85,10 @@ mul-seat c = omega arith
 shared-slice-read-seat : tie.Need-shared-slice-read-seat Inv-loop μ-loop
 shared-slice-read-seat c = omega arith
 
--- where the rows of the size begin, and where they end
-begins : (c : tie.After-place-in-column Inv-loop μ-loop)
-    → let a = c .before .before .before .before .before .before .before .before .args in
-    c .place-in-column .result ≡ rowsUnder (a .words .now) (length (a .features .now))
-begins c =
-    let b = c .before .before .before .before .before .before .before .before in
-    let k = c .before .before .row-count in
-    let s = c .before .row-start in
-    under-found (b .args .words .now) (b .pre .0) (k .result) (s .result) (k .ensures .0) (s .ensures .0) (length (b .args .features .now)) (c .place-in-column .result) (c .place-in-column .ensures)
-
-ends : (c : tie.After-place-in-column2 Inv-loop μ-loop)
-    → let a = c .before .before .before .before .before .before .before .before .before .args in
-    c .place-in-column2 .result ≡ rowsUnder (a .words .now) (length (a .features .now) + 1)
-ends c =
-    let b = c .before .before .before .before .before .before .before .before .before in
-    let k = c .before .before .before .row-count in
-    let s = c .before .before .row-start in
-    under-found (b .args .words .now) (b .pre .0) (k .result) (s .result) (k .ensures .0) (s .ensures .0) (length (b .args .features .now) + 1) (c .place-in-column2 .result) (c .place-in-column2 .ensures)
-
 seat-requires : tie.Need-seat-requires Inv-loop μ-loop
 seat-requires c κs =
     let l = c .before .before .before .before in
-    let b = l .before .before .before .before .before .before .before .before .before .before in
+    let b = l .before .before .before .before .before .before .before .before in
     let fs = b .args .features .now in
     let j = l .loop .j in
     let n = l .loop .inv .4 .count in
@@ -131,13 +98,13 @@ seat-requires c κs =
     let v = l .loop .inv .2 in
     let p = b .pre .3 in
     let q = b .pre .4 in
-    (b .pre .0, begins (l .before .before), ends (l .before), omega arith, omega arith)
+    (b .pre .0, l .before .before .rows-under .ensures, l .before .rows-under2 .ensures, omega arith, omega arith)
 
 cast-postings : tie.Need-cast-postings Inv-loop μ-loop
 cast-postings c =
     let s = c .before .before .before .before .before in
     let l = s .before .before .before .before .before in
-    let k = l .before .before .before .before .before .before .before .before .before in
+    let k = l .before .before .before .before .before .before .before in
     let b = k .before in
     let a = b .args in
     let e = s .seat .ensures .0 in
@@ -161,7 +128,7 @@ loop-again : tie.Need-loop-again Inv-loop μ-loop
 loop-again c =
     let s = c .before .before .before .before .before in
     let l = s .before .before .before .before .before in
-    let b = l .before .before .before .before .before .before .before .before .before .before in
+    let b = l .before .before .before .before .before .before .before .before in
     let a = b .args in
     let fs = a .features .now in
     let w = a .words .now in
@@ -193,7 +160,7 @@ returns : tie.Need-returns Inv-loop μ-loop
 unfolding postingCuts
 returns c =
     let l = c .before in
-    let b = l .before .before .before .before .before .before .before .before .before .before in
+    let b = l .before .before .before .before .before .before .before .before in
     let a = b .args in
     let fs = a .features .now in
     let w = a .words .now in
@@ -219,14 +186,11 @@ put-seats-spec =
     Inv-loop
     μ-loop
     cast-size
-    row-count-requires
-    row-start-requires
-    add-first
-    cast-place-in-column
-    place-in-column-requires
-    cast-place-in-column-2
-    add-place-in-column
-    place-in-column-requires-2
+    cast-rows-under
+    rows-under-requires
+    cast-rows-under-2
+    add-rows-under
+    rows-under-requires-2
     loop-holds
     mul-seat
     shared-slice-read-seat

@@ -1,10 +1,12 @@
--- `each_size` meets its contract: after the sizes below y, their touches and their answers, and the tables as they are lent.
+-- `each_size` meets its contract: after the sizes below y, their touches and their answers, and the tables as they are lent; the rows that were come
+-- past have smaller sizes.
 use mathlib.Core.Path.{_≡_, sym, ap, _∙_}
 use Prim.Native.Nat.{_+_, _-_, _≤_, _<_}
 use native.Mathlib.Omega.{arith}
 use borrow.Author.Needs.{needs}
 use lib.ListN.{length}
 use Rattle.index.specs.Good.{mostNames}
+use Rattle.lists.specs.Sizes.{rowsUnder}
 use Rattle.sizes.specs.Method.{sizesEnd}
 use Rattle.sizes.specs.Tables.{sizesBelow, Lent}
 use Rattle.sizes.proofs.Answering.{length-answers}
@@ -13,11 +15,11 @@ use Rattle.sizes.proofs.each_size.Statement.{statement}
 use Rattle.sizes.proofs.each_size.Tie as tie
 
 abbrev Inv-loop : tie.InvT-loop
-Inv-loop words ids features leasts allowance starts₀ keys₀ spare₀ counts₀ met₀ answers₀ end touches₀ y₀ starts keys spare counts met answers touches y =
-    (y ≤ end) × Passed words leasts features allowance y answers touches × Lent features starts keys spare counts met
+Inv-loop words ids features leasts allowance starts₀ keys₀ spare₀ counts₀ met₀ answers₀ end touches₀ under₀ y₀ starts keys spare counts met answers touches under y =
+    (y ≤ end) × Passed words leasts features allowance y answers touches × Lent features starts keys spare counts met × (under ≤ rowsUnder words y)
 
 abbrev μ-loop : tie.MeasureT-loop
-μ-loop words ids features leasts allowance starts₀ keys₀ spare₀ counts₀ met₀ answers₀ end touches₀ y₀ starts keys spare counts met answers touches y = end - y
+μ-loop words ids features leasts allowance starts₀ keys₀ spare₀ counts₀ met₀ answers₀ end touches₀ under₀ y₀ starts keys spare counts met answers touches under y = end - y
 
 -- the function's entry as seen from the loop, and the turn's beginning and the size as seen from what follows
 abbrev start : tie.At-loop Inv-loop μ-loop → tie.Start Inv-loop μ-loop
@@ -28,7 +30,7 @@ below : (c : tie.At-loop Inv-loop μ-loop) → (c .before .sizes-below .result �
 below c = c .before .sizes-below .ensures
 
 abbrev turn : tie.After-one-size Inv-loop μ-loop → tie.In-loop Inv-loop μ-loop
-turn c = c .before .before .before .before .before .before .before .before
+turn c = c .before .before .before .before .before .before .before .before .before
 
 abbrev size : tie.Then1 Inv-loop μ-loop → tie.After-one-size Inv-loop μ-loop
 size c = c .before .before .before .before .before .before .before .before .before .before .before .before .before
@@ -46,7 +48,7 @@ sizes-below-requires : tie.Need-sizes-below-requires Inv-loop μ-loop
 sizes-below-requires c κs = search needs
 
 loop-holds : tie.Need-loop-holds Inv-loop μ-loop
-loop-holds c = let b = c .before .before .before .before .before .before .before .before .before .before .before in (omega arith, passed-none (b .pre .0 .4), b .pre .1)
+loop-holds c = let b = c .before .before .before .before .before .before .before .before .before .before .before in (omega arith, passed-none (b .pre .0 .4), b .pre .1, omega arith)
 
 low : (c : tie.In-loop Inv-loop μ-loop) → c .before .loop .y < sizesEnd
 low c = let b = below (c .before) .1 in let t = c .loop-test .taken in omega arith
@@ -60,17 +62,24 @@ shared-slice-read-least c = let t = low (c .before) in let n = start (c .before 
 cast-least : tie.Need-cast-least Inv-loop μ-loop
 cast-least c = omega (arith, c .shared-slice-known5 .given (c .before .before .loop .y))
 
+cast-rows-at : tie.Need-cast-rows-at Inv-loop μ-loop
+cast-rows-at c = let t = low (c .before) in omega arith
+
+rows-at-requires : tie.Need-rows-at-requires Inv-loop μ-loop
+rows-at-requires c κs = (start (c .before .before) .pre .0 .0, c .before .before .loop .inv .3)
+
 cast-one-size : tie.Need-cast-one-size Inv-loop μ-loop
-cast-one-size c = let t = low (c .before) in omega arith
+cast-one-size c = let t = low (c .before .before) in omega arith
 
 sub-one-size : tie.Need-sub-one-size Inv-loop μ-loop
-sub-one-size c = passed-within (c .before .before .loop .inv .1)
+sub-one-size c = passed-within (c .before .before .before .loop .inv .1)
 
 one-size-requires : tie.Need-one-size-requires Inv-loop μ-loop
 one-size-requires c κs =
-    let t = c .before .before .before .before .before .before .before in
+    let rows = c .before .before .before .before .before .before .rows-at in
+    let t = c .before .before .before .before .before .before .before .before in
     let b = start (t .before) in
-    ((b .pre .0 .0, b .pre .0 .1, b .pre .0 .2, b .pre .0 .3 .most (t .before .loop .y) (low t), wide (t .before)), t .before .loop .inv .2)
+    ((b .pre .0 .0, b .pre .0 .1, b .pre .0 .2, b .pre .0 .3 .most (t .before .loop .y) (low t), wide (t .before)), (t .before .loop .inv .2, rows .ensures .0))
 
 same-length : tie.Need-same-length Inv-loop μ-loop
 same-length c = let k = size c .one-size .kept in let i = at c .loop .inv .2 in let p = start (at c) .pre .1 in omega arith
@@ -82,7 +91,7 @@ same-length-3 : tie.Need-same-length-3 Inv-loop μ-loop
 same-length-3 c = let k = size c .one-size .kept in let i = at c .loop .inv .2 in let p = start (at c) .pre .1 in omega arith
 
 same-length-4 : tie.Need-same-length-4 Inv-loop μ-loop
-same-length-4 c = size c .one-size .kept .1 .1 .1 .1 .1 .1 .1 .1 .1 .0 ∙ ap length (at c .loop .inv .2 .cleared ∙ sym (start (at c) .pre .1 .cleared))
+same-length-4 c = size c .one-size .kept .1 .1 .1 .1 .1 .1 .1 .1 .1 .1 .1 .0 ∙ ap length (at c .loop .inv .2 .cleared ∙ sym (start (at c) .pre .1 .cleared))
 
 same-length-5 : tie.Need-same-length-5 Inv-loop μ-loop
 same-length-5 c = let k = size c .one-size .kept in let i = at c .loop .inv .2 in let p = start (at c) .pre .1 in omega arith
@@ -101,7 +110,7 @@ returns c =
 next : (c : tie.After-struct-known Inv-loop μ-loop)
     → let s = sized c in
     let l = turn s .before in
-    let a = start l .args in Passed (a .words .now) (a .leasts .now) (a .features .now) (a .allowance) (l .loop .y + 1) (s .one-size .last .1 .1 .1 .1 .1 .1 .1 .1 .1 .1 .1 .0) (l .loop .touches + s .one-size .result .touches)
+    let a = start l .args in Passed (a .words .now) (a .leasts .now) (a .features .now) (a .allowance) (l .loop .y + 1) (s .one-size .last .1 .1 .1 .1 .1 .1 .1 .1 .1 .1 .1 .1 .1 .0) (l .loop .touches + s .one-size .result .touches)
 next c =
     let s = sized c in
     let t = turn s in
@@ -126,12 +135,13 @@ loop-again c =
       omega arith,
       next c,
       (record {
-        starting = k .1 .1 .1 .1 .1 .1 .0 ∙ l .starting;
-        keyed = k .1 .1 .1 .1 .1 .1 .1 .0 ∙ l .keyed;
-        spared = k .1 .1 .1 .1 .1 .1 .1 .1 .0 ∙ l .spared;
+        starting = k .1 .1 .1 .1 .1 .1 .1 .1 .0 ∙ l .starting;
+        keyed = k .1 .1 .1 .1 .1 .1 .1 .1 .1 .0 ∙ l .keyed;
+        spared = k .1 .1 .1 .1 .1 .1 .1 .1 .1 .1 .0 ∙ l .spared;
         cleared = s .one-size .ensures .cleared (c .before .if1 .left);
-        meeting = k .1 .1 .1 .1 .1 .1 .1 .1 .1 .1 .0 ∙ l .meeting;
+        meeting = k .1 .1 .1 .1 .1 .1 .1 .1 .1 .1 .1 .1 .0 ∙ l .meeting;
       }),
+      s .before .before .before .before .before .before .before .rows-at .ensures .1,
     )
 
 same-length-7 : tie.Need-same-length-7 Inv-loop μ-loop
@@ -170,6 +180,8 @@ each-size-spec =
     mul-least
     shared-slice-read-least
     cast-least
+    cast-rows-at
+    rows-at-requires
     cast-one-size
     sub-one-size
     one-size-requires

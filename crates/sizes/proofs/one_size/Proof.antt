@@ -32,10 +32,10 @@ some c = let h = c .if1 .left in omega arith
 
 -- the lists in order, as they were found: their keys, and where they start
 abbrev keys : tie.Else2 → List ℕ
-keys c = found c .order-lists .last .1 .1 .1 .1 .1 .0
+keys c = found c .order-lists .last .1 .1 .1 .1 .1 .1 .1 .0
 
 abbrev starts : tie.Else2 → List ℕ
-starts c = found c .order-lists .last .1 .1 .1 .1 .0
+starts c = found c .order-lists .last .1 .1 .1 .1 .1 .1 .0
 
 abbrev entry : tie.Else2 → tie.Start
 entry c = start (first (found c))
@@ -53,17 +53,21 @@ ordered c =
     record {
       sorted = u .0;
       begin = u .1;
-      room = (let q = o .kept .1 .1 .1 .1 .0 in let r = b .pre .1 .starting in let p = b .pre .0 .2 .few in omega arith);
+      room = (let q = o .kept .1 .1 .1 .1 .1 .1 .0 in let r = b .pre .1 .0 .starting in let p = b .pre .0 .2 .few in omega arith);
     }
 
 returns : tie.Need-returns
 returns c =
     let b = c .before .before .before .before .before .before .before .before .before .before in
     let a = b .args in
-    sized-none (a .words .now) (a .size) (a .features .now) (a .least) (a .budget) (a .answers .now) (a .counts .now) (c .if1 .taken) (b .pre .1 .cleared)
+    sized-none (a .words .now) (a .size) (a .features .now) (a .least) (a .budget) (a .answers .now) (a .counts .now) (c .if1 .taken) (b .pre .1 .0 .cleared)
 
 order-lists-requires : tie.Need-order-lists-requires
-order-lists-requires c κs = search needs
+order-lists-requires c κs =
+    let b = start (c .before .before .before) in
+    let rows = b .pre .1 .1 (some (c .before .before .before)) in
+    let l = b .pre .1 .0 in
+    (b .pre .0 .0, b .pre .0 .2 .few, b .pre .0 .3, l .starting, l .keyed, l .spared, rows .0, rows .1)
 
 same-length : tie.Need-same-length
 same-length c = search needs
@@ -80,7 +84,7 @@ returns-2 c =
     let b = start (first o) in
     let a = b .args in
     let few = leb-false (a .least) (filledOf (a .words .now) (a .size) (a .features .now) (length (a .features .now))) (sym (o .order-lists .ensures .0) ∙ not-true _ (c .if2 .taken)) in
-    sized-short (a .words .now) (a .size) (a .features .now) (b .pre .0 .2) (a .least) (some (first o)) (b .pre .0 .3) few (a .budget) (a .answers .now) (a .counts .now) (b .pre .0 .4) (b .pre .1 .cleared)
+    sized-short (a .words .now) (a .size) (a .features .now) (b .pre .0 .2) (a .least) (some (first o)) (b .pre .0 .3) few (a .budget) (a .answers .now) (a .counts .now) (b .pre .0 .4) (b .pre .1 .0 .cleared)
 
 walk-lists-requires : tie.Need-walk-lists-requires
 walk-lists-requires c κs =
@@ -101,7 +105,7 @@ walk-lists-requires c κs =
         (let q = b .pre .0 .3 in omega arith),
         b .pre .0 .4,
       ),
-      (b .pre .1 .cleared, b .pre .1 .meeting),
+      (b .pre .1 .0 .cleared, b .pre .1 .0 .meeting),
     )
 
 same-length-4 : tie.Need-same-length-4
