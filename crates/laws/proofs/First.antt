@@ -1,4 +1,4 @@
--- Laws of the first number that passes a test. Cited by `likeness` and `index`.
+-- Laws of the first number that passes a test. Cited by `likeness`, `index`, `queries` and `reports`.
 -- Assumes nothing.
 use mathlib.Core.Path.{_≡_, refl, sym, ap, subst, _∙_}
 use mathlib.Core.Logic.{⊎-elim}

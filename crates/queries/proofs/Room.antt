@@ -1,5 +1,5 @@
 -- Laws of one query's answer and the room that it had: with less than its rows need it is 8, and otherwise it is what it would be with room enough.
--- Cited by Upto.antt.
+-- Cited by Upto.antt and Demands.antt.
 -- Assumes nothing.
 use mathlib.Core.Path.{_≡_, refl, sym, ap, _∙_}
 use mathlib.Core.Bool.{Bool, true, false, cond, not, _&&_, false≢true}

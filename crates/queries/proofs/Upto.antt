@@ -1,4 +1,5 @@
--- The first k queries: their outcomes and their rows stand in front, and one query more. Cited by the proofs of `one`, `each_query` and `search_many`.
+-- The first k queries: their outcomes and their rows stand in front, and one query more. Cited by the proofs of `one`, `each_query` and `search_many`, and by
+-- Demands.antt.
 -- Assumes nothing.
 use mathlib.Core.Path.{_≡_, refl, sym, ap, ap₂, _∙_}
 use mathlib.Core.Bool.{Bool, true, false, cond}
