@@ -15,8 +15,8 @@ use Rattle.laws.proofs.Tests.{or_right}
 use Rattle.laws.proofs.Members.{or_cases, each_nil, each_cons, each_append}
 use Rattle.laws.proofs.Images.{each_tabulate}
 use Rattle.laws.proofs.Order.{eq_or_ne}
-use Rattle.hex.specs.Lines.{digit_of, place_in, value_of, hex_of, hex_line, bytes_of}
-use Rattle.hex.proofs.Lines.{last_feed}
+use Rattle.hex_digits.specs.Lines.{digit_of, place_in, value_of, hex_of, hex_line, bytes_of}
+use Rattle.hex_digits.proofs.Lines.{last_feed}
 use Rattle.fields.specs.Layouts.{is_frame, line_of, field_bytes, name_bytes}
 use Rattle.fields.proofs.Layouts.{frame_other, frame_well_formed}
 use Rattle.fields.proofs.Laws.{frame_line}

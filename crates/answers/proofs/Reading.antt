@@ -15,8 +15,8 @@ use Rattle.names.specs.Features.{features_of}
 use Rattle.likeness.specs.Terms.{lowest_terms}
 use Rattle.likeness.proofs.Measures.{threshold_facts}
 use Rattle.likeness.proofs.Terms.{lowest_good}
-use Rattle.hex.specs.Lines.{hex_of, hex_line}
-use Rattle.hex.specs.Numbers.{bytes_for}
+use Rattle.hex_digits.specs.Lines.{hex_of, hex_line}
+use Rattle.hex_digits.specs.Numbers.{bytes_for}
 use Rattle.fields.specs.Layouts.{line_of, field_bytes, name_bytes, is_frame, read_of}
 use Rattle.frames.specs.declared.RowRead.TheVariants.{Row}
 use Rattle.frames.specs.declared.EndRead.TheVariants.{End}

@@ -6,8 +6,8 @@ use Prim.Native.Nat.{ℕ, ◌+◌, ◌*◌, ◌≤◌}
 use native.Mathlib.Omega.{arith}
 use lib.ListN.{length, get_or, drop, length-append}
 use Rattle.lines.proofs.Evenly.{length_texts}
-use Rattle.hex.specs.Lines.{hex_of, hex_line}
-use Rattle.hex.specs.Numbers.{bytes_for}
+use Rattle.hex_digits.specs.Lines.{hex_of, hex_line}
+use Rattle.hex_digits.specs.Numbers.{bytes_for}
 use Rattle.fields.specs.Layouts.{field_bytes, name_bytes, line_of, out_of}
 use Rattle.fields.specs.Fitted.{fitted_of}
 use Rattle.fields.proofs.Fitted.{fitted_all, out_exact}

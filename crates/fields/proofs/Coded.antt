@@ -9,8 +9,8 @@ use native.Mathlib.Omega.{arith}
 use lib.ListN.{length, get_or, take, drop, replicate, length-append, length-replicate, replicate-append-replicate}
 use lib.Dec.{leb}
 use Rattle.laws.specs.Lists.{sum_of}
-use Rattle.hex.specs.Lines.{bytes_of}
-use Rattle.hex.specs.Numbers.{number_of}
+use Rattle.hex_digits.specs.Lines.{bytes_of}
+use Rattle.hex_digits.specs.Numbers.{number_of}
 use Rattle.fields.specs.declared.Layout.{Layout}
 use Rattle.fields.specs.declared.Reading.{Reading}
 use Rattle.fields.specs.Layouts.{head_size, tail_size, laid_out, is_frame, fields_of, fields_in, name_in, accepted_as, refused_with, read_of, buffer_of}

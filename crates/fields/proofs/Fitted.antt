@@ -12,7 +12,7 @@ use borrow.Author.Tests.{le-leb, lt-leb, leb-true}
 use borrow.Rule.Slice.PartMut.{put_mid}
 use Rattle.lines.specs.Lines.{line_feed}
 use Rattle.lines.proofs.Cut.{NoFeed, Line}
-use Rattle.hex.specs.Lines.{digits, digit_of, hex_of, hex_line}
+use Rattle.hex_digits.specs.Lines.{digits, digit_of, hex_of, hex_line}
 use Rattle.fields.specs.Layouts.{field_bytes, name_bytes, line_of, written_of, out_of}
 use Rattle.fields.specs.Fitted.{fitting_of, fitted_of}
 use Rattle.fields.specs.declared.Written.{Written}

@@ -1,5 +1,5 @@
 -- The laws of frames that other layers cite, over every layout: both round trips, at most one reading, and no line of two kinds.
--- For the five frames they are in `frames`, Five.antt; that a line has one line feed, at its end, is `feed_last` and `last_feed` in `hex`, Lines.antt.
+-- For the five frames they are in `frames`, Five.antt; that a line has one line feed, at its end, is `feed_last` and `last_feed` in `hex_digits`, Lines.antt.
 -- Assumes nothing.
 use mathlib.Core.Path.{◌≡◌, refl, sym, ap, ◌∙◌}
 use mathlib.Core.Bool.{Bool, true, false, cond, true≢false}
@@ -11,10 +11,10 @@ use lib.ListN.{length, get_or, take, drop, length-append, length-drop}
 use lib.Seq.{take_at, drop_at, take_all, take-add, length-take-le, get_or_at, drop-drop, split_at}
 use borrow.Author.Tests.{eq-eqb}
 use Rattle.laws.specs.Lists.{sum_of}
-use Rattle.hex.specs.Lines.{Bytes, well_formed, bytes_of}
-use Rattle.hex.specs.Numbers.{number_of, bytes_for}
-use Rattle.hex.proofs.Lines.{take_bytes, drop_bytes, length_bytes, well_formed_bytes, well_formed_hex, bytes_hex, hex_bytes}
-use Rattle.hex.proofs.Numbers.{length_bytes_for, bytes_for_bytes, number_bytes, bytes_number}
+use Rattle.hex_digits.specs.Lines.{Bytes, well_formed, bytes_of}
+use Rattle.hex_digits.specs.Numbers.{number_of, bytes_for}
+use Rattle.hex_digits.proofs.Lines.{take_bytes, drop_bytes, length_bytes, well_formed_bytes, well_formed_hex, bytes_hex, hex_bytes}
+use Rattle.hex_digits.proofs.Numbers.{length_bytes_for, bytes_for_bytes, number_bytes, bytes_number}
 use Rattle.fields.specs.declared.Layout.{Layout}
 use Rattle.fields.specs.declared.Reading.{Reading}
 use Rattle.fields.specs.Layouts.{head_size, field_bytes, name_bytes, line_of, FieldsFit, Fitting, tail_size, laid_out, is_frame, fields_of, fields_in, name_in, accepted_as, refused_with, read_of, buffer_of, longest_name}

@@ -3,8 +3,8 @@
 -- Assumes nothing.
 use Rattle.std.specs.Prelude.{◌≡◌, Bool, true, false, cond, ◌&&◌, List, [], ◌∷◌, ◌++◌, ℕ, ◌+◌, ◌^◌, ◌≤◌, ◌<◌, length, get_or, take, drop, replicate, leb, ltb, eqb}
 use Rattle.laws.specs.Lists.{sum_of}
-use Rattle.hex.specs.Lines.{Bytes, hex_line, well_formed, bytes_of}
-use Rattle.hex.specs.Numbers.{number_of, bytes_for}
+use Rattle.hex_digits.specs.Lines.{Bytes, hex_line, well_formed, bytes_of}
+use Rattle.hex_digits.specs.Numbers.{number_of, bytes_for}
 use Rattle.fields.specs.declared.Layout.{Layout}
 use Rattle.fields.specs.declared.Reading.{Reading}
 use Rattle.fields.specs.declared.Written.{Written}

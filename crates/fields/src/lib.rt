@@ -1,7 +1,7 @@
 // A frame of any layout, read from a hexadecimal line and written to one. Nothing here knows the five frames.
 ghost use Rattle.std.specs.Prelude.{◌≡◌, true, cond, ◌+◌, ◌*◌, ◌≤◌, ◌<◌, length};
 ghost use Rattle.std.proofs.lemmas.List.Edits.{sets};
-ghost use Rattle.hex.specs.Lines.{hex_of};
+ghost use Rattle.hex_digits.specs.Lines.{hex_of};
 ghost use Rattle.fields.specs.Layouts.{head_size, narrow, field_bytes, name_bytes, line_of, is_frame, fields_in, name_in, read_of, refused_with, buffer_of, written_of, out_of, longest_name};
 
 // The most bytes that a frame's name has: its length is one byte.
@@ -52,14 +52,14 @@ fn head_size(layout: Layout) -> usize
 fn is_frame(line: &[u8], layout: Layout) -> bool
     ensures { result ≡ is_frame layout line.now }
 {
-    if !hex::is_well_formed(line) {
+    if !hex_digits::is_well_formed(line) {
         return false;
     }
     let n = line.len() / 2;
     if n == 0 {
         return false;
     }
-    if hex::byte_at(line, 0) != layout.kind as usize {
+    if hex_digits::byte_at(line, 0) != layout.kind as usize {
         return false;
     }
     let head = head_size(layout);
@@ -69,7 +69,7 @@ fn is_frame(line: &[u8], layout: Layout) -> bool
     if n <= head {
         return false;
     }
-    n == head + (1 + hex::byte_at(line, head))
+    n == head + (1 + hex_digits::byte_at(line, head))
 }
 
 // The fields of a frame.
@@ -82,7 +82,7 @@ fn fields(line: &[u8], layout: Layout) -> [u32; Layout::FIELDS]
     let mut k = 0;
     while k < Layout::FIELDS {
         let width = layout.widths[k] as usize;
-        read[k] = hex::number_at(line, at, width);
+        read[k] = hex_digits::number_at(line, at, width);
         at += width;
         k += 1;
     }
@@ -140,7 +140,7 @@ pub fn read_named(line: &[u8], layout: Layout, name: &mut [u8]) -> Reading
     if r.number != 0 {
         return r;
     }
-    hex::copy_bytes(line, head_size(layout) + 1, r.len, name);
+    hex_digits::copy_bytes(line, head_size(layout) + 1, r.len, name);
     r
 }
 
@@ -153,7 +153,7 @@ fn put_fields(out: &mut [u8], layout: Layout, fields: [u32; Layout::FIELDS])
     let mut k = 0;
     while k < Layout::FIELDS {
         let width = layout.widths[k] as usize;
-        hex::put_number(out, at, fields[k], width);
+        hex_digits::put_number(out, at, fields[k], width);
         at += 2 * width;
         k += 1;
     }
@@ -167,8 +167,8 @@ fn put_name(out: &mut [u8], at: usize, named: bool, name: &[u8])
     if !named {
         return;
     }
-    hex::put_pair(out, at, name.len() as u8);
-    hex::put_bytes(out, at + 2, name);
+    hex_digits::put_pair(out, at, name.len() as u8);
+    hex_digits::put_bytes(out, at + 2, name);
 }
 
 // How long the line of a frame is, with a name of n bytes.
@@ -190,7 +190,7 @@ fn put_line(out: &mut [u8], layout: Layout, fields: [u32; Layout::FIELDS], name:
 {
     let head = head_size(layout);
     let feed = line_len(layout, name.len()) - 1;
-    hex::put_pair(out, 0, layout.kind);
+    hex_digits::put_pair(out, 0, layout.kind);
     put_fields(out, layout, fields);
     put_name(out, 2 * head, layout.named, name);
     out[feed] = 10;

@@ -5,8 +5,8 @@ use mathlib.Core.Bool.{false}
 use mathlib.Core.List.{List, [], ◌∷◌}
 use Prim.Native.Nat.{ℕ}
 use Rattle.laws.specs.Lists.{sum_of}
-use Rattle.hex.specs.Lines.{digit_of, place_in, value_of, is_digit, hex_of, hex_line, well_formed, bytes_of}
-use Rattle.hex.specs.Numbers.{number_of, bytes_for}
+use Rattle.hex_digits.specs.Lines.{digit_of, place_in, value_of, is_digit, hex_of, hex_line, well_formed, bytes_of}
+use Rattle.hex_digits.specs.Numbers.{number_of, bytes_for}
 use Rattle.fields.specs.Layouts.{head_size, field_bytes, name_bytes, line_of, tail_size, laid_out, is_frame, fields_of, fields_in, name_in, read_of}
 use Rattle.frames.specs.declared.RowRead.TheVariants.{Row}
 use Rattle.frames.specs.declared.EndRead.TheVariants.{End}

@@ -11,7 +11,7 @@ use lib.Dec.{eqb}
 use borrow.Author.Tests.{eq-eqb, eqb-true}
 use Rattle.laws.specs.Below.{all_below}
 use Rattle.laws.proofs.Below.{all_at}
-use Rattle.hex.specs.Lines.{Bytes}
+use Rattle.hex_digits.specs.Lines.{Bytes}
 use Rattle.fields.specs.declared.Reading.{Reading}
 use Rattle.fields.specs.Layouts.{line_of, is_frame, name_in, read_of, longest_name}
 use Rattle.fields.proofs.Laws.{fitting_named, fitting_plain, read_write, write_reading, kind_unique}

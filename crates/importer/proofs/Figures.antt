@@ -4,7 +4,7 @@ use mathlib.Core.Path.{refl}
 use Rattle.laws.specs.Cases.{first_case}
 use Rattle.laws.specs.Lists.{member, sum_of}
 use Rattle.laws.specs.Sort.{insert, sort_of}
-use Rattle.hex.specs.Lines.{well_formed}
+use Rattle.hex_digits.specs.Lines.{well_formed}
 use Rattle.fields.specs.Layouts.{is_frame}
 use Rattle.weeks.specs.Pairs.{once_of, pairs_of, amount, tally}
 use Rattle.importer.specs.Import.{outcome_from, entry_from, judge_line, judged_from}

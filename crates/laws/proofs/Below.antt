@@ -1,4 +1,4 @@
--- Laws of tests and sums over the numbers below a bound. Cited wherever something is tested or counted up to a bound, from `hex` to
+-- Laws of tests and sums over the numbers below a bound. Cited wherever something is tested or counted up to a bound, from `hex_digits` to
 -- `statements`.
 -- Assumes nothing.
 use mathlib.Core.Path.{◌≡◌, refl, sym, ap, ap₂, ◌∙◌}

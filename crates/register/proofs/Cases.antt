@@ -11,8 +11,8 @@ use Rattle.laws.specs.Sort.{insert, sort_of}
 use Rattle.laws.specs.Cases.{first_case}
 use Rattle.names.specs.Names.{has_control, judge_of}
 use Rattle.names.specs.Features.{padded, packed, gram_at, times_in, number_at, numbered, features_by, features_of}
-use Rattle.hex.specs.Lines.{digit_of, place_in, value_of, is_digit, hex_of, hex_line, well_formed, bytes_of}
-use Rattle.hex.specs.Numbers.{number_of}
+use Rattle.hex_digits.specs.Lines.{digit_of, place_in, value_of, is_digit, hex_of, hex_line, well_formed, bytes_of}
+use Rattle.hex_digits.specs.Numbers.{number_of}
 use Rattle.fields.specs.Layouts.{head_size, tail_size, laid_out, is_frame, fields_of, fields_in, name_in}
 use Rattle.index_writer.specs.Built.{triples_of, all_triples, join_row, runs_of, lists_of, row_words, words_from, rows_of, words_of}
 use Rattle.lines.specs.Lines.{join_line, lines_of}

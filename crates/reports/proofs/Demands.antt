@@ -15,8 +15,8 @@ use Rattle.laws.proofs.Lists.{count_append}
 use Rattle.laws.proofs.Tests.{or_right}
 use Rattle.laws.proofs.Members.{or_cases, each_nil, each_cons, each_append}
 use Rattle.laws.proofs.Order.{eq_or_ne}
-use Rattle.hex.specs.Lines.{digit_of, place_in, value_of as digitValue, hex_of, hex_line, bytes_of}
-use Rattle.hex.proofs.Lines.{last_feed}
+use Rattle.hex_digits.specs.Lines.{digit_of, place_in, value_of as digitValue, hex_of, hex_line, bytes_of}
+use Rattle.hex_digits.proofs.Lines.{last_feed}
 use Rattle.fields.specs.declared.Layout.{Layout}
 use Rattle.fields.specs.declared.Reading.{Reading}
 use Rattle.fields.specs.Layouts.{is_frame, name_in, line_of, read_of, accepted_as, refused_with}

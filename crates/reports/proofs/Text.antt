@@ -10,8 +10,8 @@ use borrow.Rule.Slice.PartMut.{put_mid}
 use Rattle.laws.specs.Lists.{tabulate}
 use Rattle.lines.specs.Lines.{joined}
 use Rattle.lines.proofs.Evenly.{length_texts}
-use Rattle.hex.specs.Lines.{hex_of, hex_line}
-use Rattle.hex.specs.Numbers.{bytes_for}
+use Rattle.hex_digits.specs.Lines.{hex_of, hex_line}
+use Rattle.hex_digits.specs.Numbers.{bytes_for}
 use Rattle.fields.specs.Layouts.{field_bytes, name_bytes, line_of, written_of, out_of}
 use Rattle.fields.specs.declared.Written.{Written}
 use Rattle.fields.specs.Fitted.{fitting_of, fitted_of}

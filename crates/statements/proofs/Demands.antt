@@ -9,7 +9,7 @@ use native.Mathlib.Omega.{arith}
 use lib.ListN.{length, get_or, take, length-map}
 use lib.Dec.{eqb, leb, ltb}
 use borrow.Author.Tests.{leb-true, eqb-true, ltb-true, lt-ltb, le-ltb}
-use Rattle.hex.specs.Lines.{Bytes}
+use Rattle.hex_digits.specs.Lines.{Bytes}
 use Rattle.laws.specs.Lists.{member, Ascending}
 use Rattle.laws.specs.Cases.{first_case, all_numbers, all_numbered}
 use Rattle.laws.proofs.Cases.{first_number, first_front, first_behind}

@@ -7,7 +7,7 @@ use Prim.Native.Nat.{ℕ, ◌*◌, ◌≤◌, ◌<◌}
 use native.Mathlib.Omega.{arith}
 use lib.ListN.{length}
 use lib.Dec.{ltb}
-use Rattle.hex.specs.Lines.{Bytes}
+use Rattle.hex_digits.specs.Lines.{Bytes}
 use Rattle.laws.proofs.Below.{sum_below_ext}
 use Rattle.laws.proofs.Passing.{passing_ext}
 use Rattle.names.specs.Features.{features_of}

@@ -17,7 +17,7 @@ use Rattle.laws.proofs.Members.{each_first, each_rest}
 use Rattle.laws.proofs.Images.{tabulate_of}
 use Rattle.laws.proofs.Order.{eq_or_ne}
 use Rattle.laws.proofs.Sums.{sum_map}
-use Rattle.hex.specs.Lines.{Bytes}
+use Rattle.hex_digits.specs.Lines.{Bytes}
 use Rattle.words.specs.Words.{name_count, posting_count, name_word, name_id, name_size, total}
 use Rattle.index.specs.Good.{Good}
 use Rattle.index_writer.specs.Built.{Entry, no_entry, word_of, words_of}

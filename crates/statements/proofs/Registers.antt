@@ -17,8 +17,8 @@ use Rattle.laws.proofs.Order.{le_or_lt}
 use Rattle.laws.proofs.Sort.{ascending_across}
 use Rattle.names.specs.Names.{judge_of}
 use Rattle.names.proofs.Laws.{good_name}
-use Rattle.hex.specs.Lines.{Bytes, is_digit, well_formed}
-use Rattle.hex.proofs.Lines.{well_formed_length, feed_last}
+use Rattle.hex_digits.specs.Lines.{Bytes, is_digit, well_formed}
+use Rattle.hex_digits.proofs.Lines.{well_formed_length, feed_last}
 use Rattle.fields.specs.Layouts.{Fitting, line_of, is_frame}
 use Rattle.fields.proofs.Layouts.{frame_well_formed}
 use Rattle.fields.proofs.Laws.{fitting_named, frame_written, fields_written, name_written, read_fits}

@@ -20,7 +20,7 @@ use Rattle.words.specs.Words.{name_count, name_id, name_size, total}
 use Rattle.index.specs.Good.{Good, most_postings}
 use Rattle.index_writer.specs.Built.{words_of}
 use Rattle.lists.specs.Lists.{list_in, features_in}
-use Rattle.hex.specs.Lines.{Bytes}
+use Rattle.hex_digits.specs.Lines.{Bytes}
 use Rattle.fields.specs.Layouts.{is_frame, name_in, line_of, read_of, buffer_of, longest_name}
 use Rattle.frames.specs.Frames.{name_frame, query_frame, row_frame, end_frame, refusal_frame, layouts, name_out, query_out, row_out, end_out, refusal_out}
 use Rattle.frames.specs.declared.NameRead.{NameRead}

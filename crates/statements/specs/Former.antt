@@ -7,7 +7,7 @@ use Rattle.laws.specs.Lists.{member, Ascending}
 use Rattle.laws.specs.Each.{Each}
 use Rattle.names.specs.Names.{longest}
 use Rattle.names.specs.Features.{features_by, gram_length, characters}
-use Rattle.hex.specs.Lines.{Bytes}
+use Rattle.hex_digits.specs.Lines.{Bytes}
 use Rattle.index.specs.Good.{most_names, largest_id, Good}
 use Rattle.index_writer.specs.Built.{Entry, no_entry, words_of, Fit}
 use Rattle.statements.specs.Demands.{Every, Answered, with_words, Names, Holds, Listing}

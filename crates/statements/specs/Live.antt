@@ -9,7 +9,7 @@ use Rattle.laws.specs.Filter.{filter_of}
 use Rattle.laws.specs.Cases.{first_case}
 use Rattle.names.specs.Names.{judge_of}
 use Rattle.names.specs.Features.{features_of}
-use Rattle.hex.specs.Lines.{Bytes}
+use Rattle.hex_digits.specs.Lines.{Bytes}
 use Rattle.fields.specs.Layouts.{line_of}
 use Rattle.frames.specs.Frames.{name_frame}
 use Rattle.words.specs.Words.{name_count, posting_count, total}

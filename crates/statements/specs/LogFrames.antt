@@ -10,7 +10,7 @@ use Rattle.log_frames.specs.declared.OutcomeRead.TheVariants.{Outcome}
 use Rattle.log_frames.specs.declared.PairRead.TheVariants.{Pair}
 use Rattle.log_frames.specs.declared.ImportEndRead.TheVariants.{ImportEnd}
 use Rattle.log_frames.specs.declared.ImportRefusalRead.TheVariants.{ImportRefusal}
-use Rattle.hex.specs.Lines.{Bytes}
+use Rattle.hex_digits.specs.Lines.{Bytes}
 
 pub record LogFrames : Type 0 where
   pub log_back : (day reading : ℕ) (name : List ℕ) → day < 65536 → reading < 65536 → Bytes name → length name ≤ 255 → (room : ℕ) → length name ≤ room

@@ -13,8 +13,8 @@ use lib.Dec.{eqb, leb, ltb}
 use Rattle.names.specs.Features.{features_of}
 use Rattle.likeness.specs.Terms.{lowest_terms}
 use Rattle.fields.specs.declared.Layout.{Layout}
-use Rattle.hex.specs.Lines.{bytes_of}
-use Rattle.hex.proofs.Lines.{length_bytes, well_formed_bytes}
+use Rattle.hex_digits.specs.Lines.{bytes_of}
+use Rattle.hex_digits.proofs.Lines.{length_bytes, well_formed_bytes}
 use Rattle.fields.specs.Layouts.{head_size, line_of, read_of, written_of, longest_name}
 use Rattle.fields.proofs.Layouts.{size_named, frame_well_formed, frame_length, length_name, read_cases}
 use Rattle.index.specs.Good.{good_of}

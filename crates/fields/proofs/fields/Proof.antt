@@ -8,7 +8,7 @@ use lib.ListN.{length, take, drop, replicate}
 use lib.Seq.{sets, take-length}
 use borrow.Author.Rules.{rules}
 use Rattle.laws.specs.Lists.{sum_of}
-use Rattle.hex.specs.Lines.{bytes_of}
+use Rattle.hex_digits.specs.Lines.{bytes_of}
 use Rattle.fields.specs.Layouts.{head_size, fields_of, fields_in}
 use Rattle.fields.proofs.Layouts.{most, sum_more, sum_take_le, narrow_at, length_fields, fields_turn, sets_all, frame_well_formed, frame_head}
 use Rattle.fields.proofs.fields.Statement.{statement}

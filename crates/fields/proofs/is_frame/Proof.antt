@@ -4,7 +4,7 @@ use mathlib.Core.Path.{sym, ◌∙◌}
 use native.Mathlib.Omega.{arith}
 use borrow.Author.Rules.{rules}
 use borrow.Author.Tests.{not-true, not-false}
-use Rattle.hex.specs.Lines.{bytes_of}
+use Rattle.hex_digits.specs.Lines.{bytes_of}
 use Rattle.fields.specs.Layouts.{head_size}
 use Rattle.fields.proofs.Layouts.{size_named, frame_damaged, frame_other, frame_short, frame_sized, frame_plain}
 use Rattle.fields.proofs.is_frame.Statement.{statement}

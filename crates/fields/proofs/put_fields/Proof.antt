@@ -7,7 +7,7 @@ use lib.ListN.{length, get_or, take}
 use lib.Seq.{sets, take-length}
 use borrow.Author.Rules.{rules}
 use Rattle.laws.specs.Lists.{sum_of}
-use Rattle.hex.specs.Lines.{hex_of}
+use Rattle.hex_digits.specs.Lines.{hex_of}
 use Rattle.fields.specs.Layouts.{head_size, field_bytes}
 use Rattle.fields.proofs.Layouts.{most, sum_more, sum_take_le, narrow_at, field_bytes_turn}
 use Rattle.fields.proofs.put_fields.Statement.{statement}

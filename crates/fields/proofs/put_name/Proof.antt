@@ -8,8 +8,8 @@ use native.Mathlib.Omega.{arith}
 use lib.ListN.{length}
 use borrow.Author.Rules.{rules}
 use borrow.Author.Tests.{not-true, not-false}
-use Rattle.hex.specs.Lines.{hex_of}
-use Rattle.hex.proofs.Lines.{sets_hex}
+use Rattle.hex_digits.specs.Lines.{hex_of}
+use Rattle.hex_digits.proofs.Lines.{sets_hex}
 use Rattle.fields.specs.Layouts.{name_bytes}
 use Rattle.fields.proofs.put_name.Statement.{statement}
 use Rattle.fields.proofs.put_name.Tie as tie

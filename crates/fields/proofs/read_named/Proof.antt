@@ -6,7 +6,7 @@ use Prim.Native.Nat.{◌+◌, ◌*◌, ◌≤◌}
 use native.Mathlib.Omega.{arith}
 use lib.ListN.{length}
 use borrow.Author.Rules.{rules}
-use Rattle.hex.proofs.Lines.{well_formed_length}
+use Rattle.hex_digits.proofs.Lines.{well_formed_length}
 use Rattle.fields.specs.declared.Reading.{Reading}
 use Rattle.fields.specs.Layouts.{is_frame, name_in, read_of}
 use Rattle.fields.proofs.Layouts.{frame_well_formed, length_name, read_zero, read_good, buffer_kept, name_copied}

@@ -1,7 +1,7 @@
 -- `write_row` meets its contract.
 -- Assumes nothing.
 use borrow.Author.Rules.{rules}
-use Rattle.hex.specs.Numbers.{bytes_for}
+use Rattle.hex_digits.specs.Numbers.{bytes_for}
 use Rattle.fields.specs.Layouts.{field_bytes, line_of, written_of, out_of}
 use Rattle.frames.proofs.write_row.Statement.{statement}
 use Rattle.frames.proofs.write_row.Tie as tie

@@ -1,7 +1,7 @@
 -- `write_import_end` meets its contract: a width of 0 adds nothing to the line.
 -- Assumes nothing.
 use borrow.Author.Rules.{rules}
-use Rattle.hex.specs.Numbers.{bytes_for}
+use Rattle.hex_digits.specs.Numbers.{bytes_for}
 use Rattle.fields.specs.Layouts.{field_bytes, line_of, written_of, out_of}
 use Rattle.log_frames.proofs.write_import_end.Statement.{statement}
 use Rattle.log_frames.proofs.write_import_end.Tie as tie

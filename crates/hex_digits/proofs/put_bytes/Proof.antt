@@ -5,10 +5,10 @@ use Prim.Native.Nat.{◌+◌, ◌*◌, ◌-◌, ◌≤◌}
 use native.Mathlib.Omega.{arith}
 use lib.ListN.{length, take}
 use lib.Seq.{sets, take-length}
-use Rattle.hex.specs.Lines.{hex_of}
-use Rattle.hex.proofs.Lines.{hex_more}
-use Rattle.hex.proofs.put_bytes.Statement.{statement}
-use Rattle.hex.proofs.put_bytes.Tie as tie
+use Rattle.hex_digits.specs.Lines.{hex_of}
+use Rattle.hex_digits.proofs.Lines.{hex_more}
+use Rattle.hex_digits.proofs.put_bytes.Statement.{statement}
+use Rattle.hex_digits.proofs.put_bytes.Tie as tie
 
 abbrev invariant-loop : tie.invariant-loop
 invariant-loop out₀ at bytes k₀ out k = (k ≤ length bytes) × (out ≡ sets out₀ at (hex_of (take k bytes))) × (length out ≡ length out₀)

@@ -4,9 +4,9 @@ use native.Mathlib.Numerals.{add-one}
 use native.Mathlib.Omega.{arith}
 use lib.ListN.{length-set}
 use borrow.Author.Rules.{rules}
-use Rattle.hex.specs.Lines.{hex_of}
-use Rattle.hex.proofs.put_pair.Statement.{statement}
-use Rattle.hex.proofs.put_pair.Tie as tie
+use Rattle.hex_digits.specs.Lines.{hex_of}
+use Rattle.hex_digits.proofs.put_pair.Statement.{statement}
+use Rattle.hex_digits.proofs.put_pair.Tie as tie
 
 digit-requires : tie.Need-digit-requires
 digit-requires c κs = search rules

@@ -4,11 +4,11 @@ use mathlib.Core.Path.{◌≡◌, refl, ap, ◌∙◌}
 use Prim.Native.Nat.{ℕ, ◌+◌, ◌*◌, ◌-◌, ◌≤◌, ◌<◌}
 use native.Mathlib.Omega.{arith}
 use lib.ListN.{get_or, take, drop}
-use Rattle.hex.specs.Lines.{bytes_of}
-use Rattle.hex.specs.Numbers.{number_of}
-use Rattle.hex.proofs.Numbers.{number_turn}
-use Rattle.hex.proofs.number_at.Statement.{statement}
-use Rattle.hex.proofs.number_at.Tie as tie
+use Rattle.hex_digits.specs.Lines.{bytes_of}
+use Rattle.hex_digits.specs.Numbers.{number_of}
+use Rattle.hex_digits.proofs.Numbers.{number_turn}
+use Rattle.hex_digits.proofs.number_at.Statement.{statement}
+use Rattle.hex_digits.proofs.number_at.Tie as tie
 
 abbrev invariant-loop : tie.invariant-loop
 invariant-loop line at width n₀ k₀ n k = (k ≤ width) × (n ≡ number_of (take k (drop at (bytes_of line))))

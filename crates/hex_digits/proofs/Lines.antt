@@ -14,8 +14,8 @@ use lib.Seq.{drop-cons, take-suc, length-take-le, get_or-drop, sets}
 use lib.Dec.{eqb}
 use borrow.Author.Tests.{lt-ltb, ltb-true, eqb-true}
 use Rattle.laws.proofs.Below.{and_left, and_right}
-use Rattle.hex.specs.Lines.{digit_of, place_in, value_of, is_digit, hex_of, hex_line, well_formed, bytes_of, Bytes}
-use Rattle.hex.proofs.Digits.{value_digit, digit_value}
+use Rattle.hex_digits.specs.Lines.{digit_of, place_in, value_of, is_digit, hex_of, hex_line, well_formed, bytes_of, Bytes}
+use Rattle.hex_digits.proofs.Digits.{value_digit, digit_value}
 
 -- ---- lists of bytes
 

@@ -11,7 +11,7 @@ use lib.Dec.{leb, ltb, eqb}
 use borrow.Author.Tests.{eqb-true, ltb-true}
 use Rattle.laws.specs.Below.{all_below}
 use Rattle.laws.proofs.Below.{all_at}
-use Rattle.hex.specs.Lines.{digits, digit_of, place_in, value_of, is_digit}
+use Rattle.hex_digits.specs.Lines.{digits, digit_of, place_in, value_of, is_digit}
 
 -- ---- the rule of the digits
 

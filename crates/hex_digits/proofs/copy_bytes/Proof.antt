@@ -6,10 +6,10 @@ use Prim.Native.Nat.{ℕ, ◌+◌, ◌-◌, ◌≤◌, ◌<◌}
 use native.Mathlib.Omega.{arith}
 use lib.ListN.{length, get_or, take, drop, length-set, length-drop}
 use lib.Seq.{sets, get_or-drop}
-use Rattle.hex.specs.Lines.{bytes_of}
-use Rattle.hex.proofs.Lines.{copy_more, well_formed_length, well_formed_bytes}
-use Rattle.hex.proofs.copy_bytes.Statement.{statement}
-use Rattle.hex.proofs.copy_bytes.Tie as tie
+use Rattle.hex_digits.specs.Lines.{bytes_of}
+use Rattle.hex_digits.proofs.Lines.{copy_more, well_formed_length, well_formed_bytes}
+use Rattle.hex_digits.proofs.copy_bytes.Statement.{statement}
+use Rattle.hex_digits.proofs.copy_bytes.Tie as tie
 
 abbrev invariant-loop : tie.invariant-loop
 invariant-loop line at count buffer₀ k₀ buffer k =

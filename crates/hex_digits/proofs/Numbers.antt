@@ -10,9 +10,9 @@ use lib.Arith.{digits_div, digits_lt, mod-mul}
 use lib.ListN.{length, get_or, take, drop, length-append, length-drop}
 use lib.Seq.{take-suc, length-take-le, get_or-drop}
 use mathlib.Core.Bool.{true}
-use Rattle.hex.specs.Lines.{Bytes, well_formed, bytes_of}
-use Rattle.hex.proofs.Lines.{take_bytes, drop_bytes, well_formed_length, well_formed_bytes}
-use Rattle.hex.specs.Numbers.{number_of, bytes_for}
+use Rattle.hex_digits.specs.Lines.{Bytes, well_formed, bytes_of}
+use Rattle.hex_digits.proofs.Lines.{take_bytes, drop_bytes, well_formed_length, well_formed_bytes}
+use Rattle.hex_digits.specs.Numbers.{number_of, bytes_for}
 
 power : (w : ℕ) → 0 < 256 ^ w
 power w = one-le-pow w 256 (omega arith)

@@ -2,9 +2,9 @@
 -- Assumes nothing.
 use native.Mathlib.Omega.{arith}
 use borrow.Author.Rules.{rules}
-use Rattle.hex.proofs.Lines.{byte_pair}
-use Rattle.hex.proofs.byte_at.Statement.{statement}
-use Rattle.hex.proofs.byte_at.Tie as tie
+use Rattle.hex_digits.proofs.Lines.{byte_pair}
+use Rattle.hex_digits.proofs.byte_at.Statement.{statement}
+use Rattle.hex_digits.proofs.byte_at.Tie as tie
 
 mul-value : tie.Need-overflow-mul-value
 mul-value c = search rules

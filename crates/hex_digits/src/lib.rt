@@ -1,8 +1,8 @@
 // Hexadecimal lines: digits, pairs, numbers high byte first by width, and runs of bytes. Nothing here knows a frame.
 ghost use Rattle.std.specs.Prelude.{◌≡◌, true, [], ◌∷◌, ◌+◌, ◌*◌, ◌/◌, ◌%◌, ◌^◌, ◌≤◌, ◌<◌, length, get_or, take, drop};
 ghost use Rattle.std.proofs.lemmas.List.Edits.{sets};
-ghost use Rattle.hex.specs.Lines.{digit_of, value_of, hex_of, well_formed, bytes_of};
-ghost use Rattle.hex.specs.Numbers.{number_of, bytes_for};
+ghost use Rattle.hex_digits.specs.Lines.{digit_of, value_of, hex_of, well_formed, bytes_of};
+ghost use Rattle.hex_digits.specs.Numbers.{number_of, bytes_for};
 
 // The value of an upper-case digit, or 16 where the byte is none.
 fn value(b: u8) -> u8

@@ -5,8 +5,8 @@ use Prim.Native.Nat.{ℕ, ◌<◌}
 use native.Mathlib.Nat.{div-one}
 use borrow.Author.Rules.{rules}
 use native.Mathlib.Omega.{arith}
-use Rattle.hex.proofs.byte_of.Statement.{statement}
-use Rattle.hex.proofs.byte_of.Tie as tie
+use Rattle.hex_digits.proofs.byte_of.Statement.{statement}
+use Rattle.hex_digits.proofs.byte_of.Tie as tie
 
 -- below 4 and none of the first three is 3
 last : (k : ℕ) → k < 4 → (k ≡ 0 → ⊥) → (k ≡ 1 → ⊥) → (k ≡ 2 → ⊥) → k ≡ 3

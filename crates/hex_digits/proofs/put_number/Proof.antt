@@ -6,12 +6,12 @@ use Prim.Native.Nat.{ℕ, ◌+◌, ◌*◌, ◌-◌, ◌≤◌}
 use native.Mathlib.Omega.{arith}
 use lib.ListN.{length, get_or, take}
 use lib.Seq.{sets, take-length}
-use Rattle.hex.specs.Lines.{hex_of}
-use Rattle.hex.specs.Numbers.{bytes_for}
-use Rattle.hex.proofs.Lines.{hex_more}
-use Rattle.hex.proofs.Numbers.{length_bytes_for, bytes_for_at}
-use Rattle.hex.proofs.put_number.Statement.{statement}
-use Rattle.hex.proofs.put_number.Tie as tie
+use Rattle.hex_digits.specs.Lines.{hex_of}
+use Rattle.hex_digits.specs.Numbers.{bytes_for}
+use Rattle.hex_digits.proofs.Lines.{hex_more}
+use Rattle.hex_digits.proofs.Numbers.{length_bytes_for, bytes_for_at}
+use Rattle.hex_digits.proofs.put_number.Statement.{statement}
+use Rattle.hex_digits.proofs.put_number.Tie as tie
 
 abbrev invariant-loop : tie.invariant-loop
 invariant-loop out₀ at n width k₀ out k = (k ≤ width) × (out ≡ sets out₀ at (hex_of (take k (bytes_for width n)))) × (length out ≡ length out₀)

@@ -5,10 +5,10 @@ use Prim.Native.Nat.{◌≤◌, ◌-◌}
 use native.Mathlib.Omega.{arith}
 use lib.ListN.{length, drop}
 use borrow.Author.Rules.{rules}
-use Rattle.hex.specs.Lines.{well_formed}
-use Rattle.hex.proofs.Lines.{scan_step, scan_high, scan_low, scan_none, scan_last}
-use Rattle.hex.proofs.is_well_formed.Statement.{statement}
-use Rattle.hex.proofs.is_well_formed.Tie as tie
+use Rattle.hex_digits.specs.Lines.{well_formed}
+use Rattle.hex_digits.proofs.Lines.{scan_step, scan_high, scan_low, scan_none, scan_last}
+use Rattle.hex_digits.proofs.is_well_formed.Statement.{statement}
+use Rattle.hex_digits.proofs.is_well_formed.Tie as tie
 
 abbrev invariant-loop : tie.invariant-loop
 invariant-loop line n i₀ i = (i ≤ length line) × (well_formed (drop i line) ≡ well_formed line)

@@ -3,9 +3,9 @@
 use borrow.Author.Rules.{rules}
 use borrow.Author.Tests.{lt-ltb, le-ltb, le-leb, lt-leb}
 use native.Mathlib.Omega.{arith}
-use Rattle.hex.proofs.Digits.{value_worked_lem}
-use Rattle.hex.proofs.value.Statement.{statement}
-use Rattle.hex.proofs.value.Tie as tie
+use Rattle.hex_digits.proofs.Digits.{value_worked_lem}
+use Rattle.hex_digits.proofs.value.Statement.{statement}
+use Rattle.hex_digits.proofs.value.Tie as tie
 
 returns : tie.Need-returns
 returns c = (simp (lt-ltb _ _ c.if1.true) at (value_worked_lem c.before.args.b (omega arith)), omega arith)
