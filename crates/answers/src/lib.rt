@@ -1,5 +1,7 @@
 // What an input becomes: its register lines an index, each of its query lines the lines of an answer. Over lent bytes, so that a program has only to
 // read and to write. The rule: docs/RULE.md, "The program lookup"; the definitions: specs/.
+#![tactic(auto)]
+
 ghost use Rattle.std.specs.Prelude.{◌≡◌, true, ◌++◌, ◌+◌, ◌*◌, ◌≤◌, ◌<◌, length, take, drop};
 ghost use Rattle.fields.specs.Layouts.{longest_name};
 ghost use Rattle.fields.specs.Fitted.{fitting_of, fitted_of};

@@ -1,5 +1,7 @@
 // The binary search of a column of words, with the powers of two that it goes by, and where a number stands in an ascending list. What is right is
 // `count_below` of the crate laws, and `seat_of` of specs/Seats.antt.
+#![tactic(auto)]
+
 ghost use Rattle.std.specs.Prelude.{◌≡◌, cond, ℕ, ◌+◌, ◌*◌, ◌^◌, ◌≤◌, ◌<◌, length, ltb};
 ghost use Rattle.laws.specs.Lists.{Ascending};
 ghost use Rattle.laws.specs.Below.{count_below};

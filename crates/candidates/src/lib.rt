@@ -1,5 +1,7 @@
 // The two phases of one size: candidates from the signature lists, then the later lists. Over the lists of the size in order, and the names' ids.
 // The rule: docs/RULE.md, "The counted search"; the definitions: specs/.
+#![tactic(auto)]
+
 ghost use Rattle.std.specs.Prelude.{◌≡◌, cond, ℕ, ◌+◌, ◌*◌, ◌/◌, ◌%◌, ◌≤◌, ◌<◌, length, get_or};
 ghost use Rattle.laws.specs.Lists.{Ascending, member};
 ghost use Rattle.names.specs.Features.{most_features};

@@ -1,4 +1,6 @@
 // A frame of any layout, read from a hexadecimal line and written to one. Nothing here knows the five frames.
+#![tactic(auto)]
+
 ghost use Rattle.std.specs.Prelude.{◌≡◌, true, cond, ◌+◌, ◌*◌, ◌≤◌, ◌<◌, length};
 ghost use Rattle.std.proofs.lemmas.List.Edits.{sets};
 ghost use Rattle.hex_digits.specs.Lines.{hex_of};

@@ -1,4 +1,6 @@
 // The five frames: hexadecimal lines to fields and back, over lent slices. Each is a layout for the reader and the writer of the crate `fields`.
+#![tactic(auto)]
+
 ghost use Rattle.std.specs.Prelude.{◌≡◌, [], ◌∷◌, length};
 ghost use Rattle.fields.specs.Layouts.{read_of, buffer_of, written_of, out_of};
 ghost use Rattle.frames.specs.Frames.{name_frame, query_frame, row_frame, end_frame, refusal_frame, name_out, query_out, row_out, end_out, refusal_out};

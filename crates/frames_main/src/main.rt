@@ -1,6 +1,8 @@
 // Shows what each of the five readers makes of lines good and damaged, and what the writers make of what was read.
 // In the input a bar stands after each line, so that a line may lack its line feed or have two.
 // vectors.py, beside src/, made the files stdin and stdout from the rule of the frames alone; it shares nothing with the crates.
+#![tactic(auto)]
+
 use fields::Written;
 use frames::{EndRead, NameRead, QueryRead, RefusalRead, RowRead};
 

@@ -1,4 +1,6 @@
 // Hexadecimal lines: digits, pairs, numbers high byte first by width, and runs of bytes. Nothing here knows a frame.
+#![tactic(auto)]
+
 ghost use Rattle.std.specs.Prelude.{◌≡◌, true, [], ◌∷◌, ◌+◌, ◌*◌, ◌/◌, ◌%◌, ◌^◌, ◌≤◌, ◌<◌, length, get_or, take, drop};
 ghost use Rattle.std.proofs.lemmas.List.Edits.{sets};
 ghost use Rattle.hex_digits.specs.Lines.{digit_of, value_of, hex_of, well_formed, bytes_of};

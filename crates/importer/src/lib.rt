@@ -1,5 +1,7 @@
 // Imports a log: which registered name each line belongs to, and the readings by id and week. The rule: docs/RULE.md; the definitions: specs/.
 // Of the lookup it uses the search and the check of an index, and nothing of how they are made.
+#![tactic(auto)]
+
 ghost use Rattle.std.specs.Prelude.{◌≡◌, true, ◌+◌, ◌≤◌, ◌<◌, length, take};
 ghost use Rattle.lines.specs.Lines.{lines_of};
 ghost use Rattle.fields.specs.Layouts.{is_frame};

@@ -1,6 +1,8 @@
 // The program `importer`: standard input to a register, a settings line and a log, and what comes of them to standard output. What it writes for an
 // input is `report_of` of crates/reports/specs/Report.antt: one refusal, or outcomes, pairs and an end; what it hands to a write is shown to be all of
 // that. An input that cannot be read is no input: nothing is imported. A read or a write that fails is said on standard error.
+#![tactic(auto)]
+
 ghost use Rattle.std.specs.Prelude.{◌≡◌, true, ◌+◌, ◌≤◌, length};
 ghost use Rattle.reports.specs.Report.{most_input, longest_report, report_of};
 ghost use Rattle.importer_program.specs.Sending.{Output};

@@ -1,4 +1,6 @@
 // What a good index is, and the check of it. The rule: docs/RULE.md, "Index words"; the definitions: specs/.
+#![tactic(auto)]
+
 ghost use Rattle.std.specs.Prelude.{◌≡◌, true, ℕ, ◌+◌, ◌-◌, ◌*◌, ◌≤◌, ◌<◌, length, get_or, eqb};
 ghost use Rattle.laws.specs.Below.{all_below};
 ghost use Rattle.words.specs.Words.{name_count, row_count, name_width, name_start, name_size};

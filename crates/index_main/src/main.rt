@@ -8,6 +8,8 @@
 // ascending; an id twice in a list; an id that is no name; an id beyond all ids; a name in one list too few; a name in one list too many; a name of size
 // 4 in a list of size 3; D of 4,294,967,295; three words of 4,294,967,295; thirty of them; one name of size 66, 67,
 // 202 and 203, each of its features in a list of its own.
+#![tactic(auto)]
+
 ghost use Rattle.std.specs.Prelude.{◌≡◌, length};
 
 use libc::{STDIN_FILENO, STDOUT_FILENO};

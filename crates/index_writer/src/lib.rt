@@ -1,5 +1,7 @@
 // Writes the index of name words and postings in order: the one writer of index words. A posting is a key, its feature × 256 + the place of its name.
 // What the index of names is, that it is good and the only good one of its names: specs/ and proofs/.
+#![tactic(auto)]
+
 ghost use Rattle.std.specs.Prelude.{◌≡◌, List, [], ◌∷◌, ◌++◌, map, ℕ, ◌+◌, ◌*◌, ◌-◌, ◌/◌, ◌%◌, ◌≤◌, ◌<◌, length, get_or, take, drop, replicate};
 ghost use Rattle.words.specs.Words.{head_width, row_width};
 ghost use Rattle.index.specs.Good.{most_names, most_postings};

@@ -1,5 +1,7 @@
 // Likeness: the four measures over a threshold p / q, exact and in whole numbers. When two names are similar, which sizes are searched, the
 // least count of shared features, and a threshold in lowest terms. What is right stands in specs/. Nothing here knows a name or a feature.
+#![tactic(auto)]
+
 ghost use Rattle.std.specs.Prelude.{◌≡◌, ◌-◌, ◌<◌, ◌^◌, min, max};
 ghost use Rattle.likeness.specs.Measures.{good_measure, good_threshold, measure_of, reaches, is_similar};
 ghost use Rattle.likeness.specs.Sizes.{beside, is_searched};

@@ -1,4 +1,6 @@
 // Runs the figures of likeness that are run and not proved, a line each. The file stdout has what the rule says of them.
+#![tactic(auto)]
+
 use libc::STDOUT_FILENO;
 
 fn show(held: bool) {

@@ -1,4 +1,6 @@
 // Bytes as lines, whatever they hold. What a line is: specs/Lines.antt.
+#![tactic(auto)]
+
 ghost use Rattle.std.specs.Prelude.{◌≡◌, ◌+◌, drop};
 ghost use Rattle.lines.specs.Lines.{line_length};
 

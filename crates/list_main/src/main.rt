@@ -8,6 +8,8 @@
 // of 2^32 and above, three of them with the low half of a row's; words beyond the total, words too few, words that are no good index; of LANE, LANES
 // and PLANE features that one size has, that both have, and that none has; and of 256 names A. stdout is what the second program answers to it:
 // `second list <stdin >stdout`.
+#![tactic(auto)]
+
 ghost use Rattle.std.specs.Prelude.{◌≡◌, length};
 ghost use Rattle.lists.specs.Lists.{span_for};
 

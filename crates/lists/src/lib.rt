@@ -1,4 +1,6 @@
 // The list of a size and a feature, and the rows of one size. The rule: docs/RULE.md, "Index words"; the definitions: specs/.
+#![tactic(auto)]
+
 ghost use Rattle.std.specs.Prelude.{◌≡◌, cond, ◌+◌, ◌^◌, ◌≤◌, ◌<◌, eqb, length};
 ghost use Rattle.laws.specs.Lists.{Ascending};
 ghost use Rattle.words.specs.Words.{row_count, row_size, postings_start, row_width, row_start, row_length, list_start, list_at, part_rows, part_feature, part_place, part_length};

@@ -1,4 +1,6 @@
 // The five frames of an import: hexadecimal lines to fields and back, over lent slices. Each is a layout for the reader and the writer of the crate `fields`.
+#![tactic(auto)]
+
 ghost use Rattle.std.specs.Prelude.{◌≡◌, [], ◌∷◌, length};
 ghost use Rattle.fields.specs.Layouts.{read_of, buffer_of, written_of, out_of};
 ghost use Rattle.log_frames.specs.Frames.{log_frame, outcome_frame, pair_frame, import_end_frame, import_refusal_frame, log_out, outcome_out, pair_out, import_end_out, import_refusal_out};

@@ -1,5 +1,7 @@
 // Shows what each of the five readers of an import's frames makes of lines good and damaged, and what the writers make of what was read.
 // In the input a bar stands behind each line, so that a line may lack its line feed. The expected output was written by hand.
+#![tactic(auto)]
+
 use fields::Written;
 use log_frames::{ImportEndRead, ImportRefusalRead, LogRead, OutcomeRead, PairRead};
 

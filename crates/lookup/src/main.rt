@@ -1,6 +1,8 @@
 // The program: standard input to an index and queries, and their answers to standard output. What it writes for an input is `output_of` of
 // crates/answers/specs/Output.antt: one refusal, or the answers of the query lines in order. Each piece that it hands to a write is shown to be the
 // next piece of that. An input that cannot be read is no input: nothing is answered. A read or a write that fails is said on standard error.
+#![tactic(auto)]
+
 ghost use Rattle.std.specs.Prelude.{◌≡◌, true, ◌+◌, ◌≤◌, ◌<◌, length};
 ghost use Rattle.answers.specs.Output.{most_input, program_words, longest_answer, opened_of, output_of};
 ghost use Rattle.lookup.specs.Pieces.{Next, Opened};

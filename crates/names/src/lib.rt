@@ -1,4 +1,6 @@
 // What a name is, and its features. The rule: docs/RULE.md, "Names and features"; the definitions: specs/.
+#![tactic(auto)]
+
 ghost use Rattle.std.specs.Prelude.{◌≡◌, [], ℕ, ◌+◌, ◌/◌, ◌%◌, ◌≤◌, ◌<◌, length, get_or};
 ghost use Rattle.laws.specs.Lists.{member};
 ghost use Rattle.names.specs.Names.{is_control, has_control, judge_of};

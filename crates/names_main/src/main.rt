@@ -1,5 +1,7 @@
 // Runs `judge` and `features` at the edges of a name. Each line: the number, then how many features.
 // The expected output was written by hand from docs/RULE.md.
+#![tactic(auto)]
+
 use libc::STDOUT_FILENO;
 
 fn show(name: &[u8]) {

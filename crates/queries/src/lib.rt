@@ -1,5 +1,7 @@
 // Many queries of one index at once: it is checked once, and the queries are answered in order as far as there is room. The rule: docs/RULE.md,
 // "Many queries at once"; the definitions: specs/.
+#![tactic(auto)]
+
 ghost use Rattle.std.specs.Prelude.{◌≡◌, ◌-◌, ◌≤◌, ◌<◌, min, length, eqb, cond};
 ghost use Rattle.index.specs.Good.{good_of};
 ghost use Rattle.search.specs.Answers.{number_in, rows_in, touches_in, as_columns, columns_over};

@@ -1,4 +1,6 @@
 // Builds an index from the bytes of a register. The rule: docs/RULE.md; the definitions: specs/.
+#![tactic(auto)]
+
 ghost use Rattle.std.specs.Prelude.{◌≡◌, map, ℕ, ◌+◌, ◌*◌, ◌≤◌, ◌<◌, length, get_or, set};
 ghost use Rattle.std.proofs.Math.Seq.{paste};
 ghost use Rattle.names.specs.Names.{judge_of};

@@ -4,6 +4,8 @@
 // Of a register of more than 262,144 bytes the first 262,144 count. A length above 131,072 is answered by an empty line. A last case without a line
 // feed is not answered.
 // vectors.py, beside src/, made the file stdin from the rule alone; stdout is what the second program answers to it: `second build <stdin >stdout`.
+#![tactic(auto)]
+
 ghost use Rattle.std.specs.Prelude.{◌≡◌, length};
 
 use libc::{STDIN_FILENO, STDOUT_FILENO};

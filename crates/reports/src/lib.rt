@@ -1,5 +1,7 @@
 // An importer's input to the lines of its output: a register, a settings line and a log become outcomes, pairs and an end, or one refusal. Over lent
 // bytes, so that a program has only to read and to write. The rule: docs/RULE.md, "The program importer"; the definitions: specs/.
+#![tactic(auto)]
+
 ghost use Rattle.std.specs.Prelude.{◌≡◌, ◌++◌, [], ◌∷◌, ◌+◌, ◌*◌, ◌≤◌, ◌<◌, length, take, drop};
 ghost use Rattle.laws.specs.Lists.{tabulate};
 ghost use Rattle.lines.specs.Lines.{joined};

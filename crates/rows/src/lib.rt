@@ -1,6 +1,8 @@
 // Answer rows as records in a lent list. The search itself is over plain columns, in the crate `search`; here its rows become cells of one plain table,
 // and those records. Only `put_rows` and `search_rows` have a list of records, and neither knows a record's fields.
 // The rule: docs/RULE.md, "The counted search"; the definitions: specs/Rows.antt.
+#![tactic(auto)]
+
 ghost use Rattle.std.specs.Prelude.{◌≡◌, ◌++◌, ◌+◌, ◌*◌, ◌≤◌, length, drop};
 ghost use Rattle.laws.specs.Lists.{tabulate};
 ghost use Rattle.index.specs.Good.{most_names};

@@ -1,5 +1,7 @@
 // The counted search over plain lent slices: what is judged before it, all sizes, and the rows. The rule: docs/RULE.md, "The counted search";
 // the definitions: specs/, and the method step by step: specs/Method.antt of `sizes`.
+#![tactic(auto)]
+
 ghost use Rattle.std.specs.Prelude.{◌≡◌, List, ◌++◌, map, ℕ, ◌≤◌, ◌<◌, min, length, get_or, drop, true};
 ghost use Rattle.likeness.specs.Measures.{good_measure, good_threshold};
 ghost use Rattle.laws.specs.Sort.{sort_of};

@@ -1,5 +1,7 @@
 // What is left to do once words were put into an index, or taken out of it: the head words, the places and the counts of the rows, and the words
 // beyond. What is right stands in the crate changes, specs/Cuts.antt; one row's count in specs/Counts.antt.
+#![tactic(auto)]
+
 ghost use Rattle.std.specs.Prelude.{◌≡◌, List, ◌+◌, ◌*◌, ◌/◌, ◌^◌, ◌≤◌, ◌<◌, length, take, drop};
 ghost use Rattle.laws.specs.Lists.{Ascending};
 ghost use Rattle.words.specs.Words.{name_start, row_width};

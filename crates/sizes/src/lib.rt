@@ -1,5 +1,7 @@
 // The sizes of a counted search: the least count of each, the lists of a size in order, one size, and all of them upward by a table of least
 // counts. Over a good index, its names' ids and features in order. The rule: docs/RULE.md, "The counted search"; the definitions: specs/.
+#![tactic(auto)]
+
 ghost use Rattle.std.specs.Prelude.{◌≡◌, ◌++◌, ℕ, ◌+◌, ◌≤◌, ◌<◌, length, get_or, drop, replicate, leb, true, cond, ◌&&◌};
 ghost use Rattle.likeness.specs.Sizes.{is_searched};
 ghost use Rattle.likeness.specs.Least.{least_count};

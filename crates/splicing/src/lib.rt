@@ -1,4 +1,6 @@
 // Words put into, and taken out of, many places of a lent slice: in place, in one pass, each word moved once at most. What is right: specs/Splice.antt.
+#![tactic(auto)]
+
 ghost use Rattle.std.specs.Prelude.{◌≡◌, ◌++◌, ℕ, ◌+◌, ◌-◌, ◌≤◌, ◌<◌, length, get_or, take, drop};
 ghost use Rattle.std.proofs.Math.Seq.{paste};
 ghost use Rattle.laws.specs.Lists.{Ascending};

@@ -1,5 +1,7 @@
 // Standard input to its end, and a text to standard output, by as many calls as it takes. A call that a signal interrupted is made again; any other
 // failure is told, and never taken for an end. Used by the programs.
+#![tactic(auto)]
+
 ghost use Rattle.std.specs.Prelude.{◌≤◌, length};
 
 use libc::{EINTR, STDIN_FILENO, STDOUT_FILENO};

@@ -1,5 +1,7 @@
 // The functions for C, Rust and Python: include/rushgirdle.h declares them. Each passes on what a layer answers, in a flat struct, and its
 // contract cites that layer's own definitions. A slice crosses as a pointer and a length. Nothing is required of a caller beyond that.
+#![tactic(auto)]
+
 ghost use Rattle.std.specs.Prelude.{◌≡◌, [], ◌∷◌, length};
 ghost use Rattle.fields.specs.Layouts.{read_of, buffer_of, written_of, out_of};
 ghost use Rattle.frames.specs.Frames.{name_frame, query_frame, row_frame, end_frame, refusal_frame};

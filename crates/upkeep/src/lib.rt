@@ -1,5 +1,7 @@
 // Pools open and close: a name is added to a good index, or withdrawn from it, in place. The rule: docs/RULE.md, "Adding and withdrawing a name"; the
 // definitions: specs/. Where words go or stand is worked out before any is moved, so that a refusal changes none; then all move in one pass.
+#![tactic(auto)]
+
 ghost use Rattle.std.specs.Prelude.{◌≡◌, cond, ◌++◌, map, ℕ, ◌+◌, ◌*◌, ◌^◌, ◌≤◌, ◌<◌, length, get_or, take, replicate};
 ghost use Rattle.laws.specs.Sort.{sort_of};
 ghost use Rattle.names.specs.Names.{judge_of};

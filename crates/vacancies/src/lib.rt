@@ -1,5 +1,7 @@
 // The words that go with a name of a good index: its id in the lists, and the rows that then list nobody. What is right stands in the crate changes,
 // specs/Cuts.antt; of one row, in specs/Steps.antt here.
+#![tactic(auto)]
+
 ghost use Rattle.std.specs.Prelude.{◌≡◌, true, [], ◌∷◌, ◌++◌, map, ℕ, ◌+◌, ◌*◌, ◌^◌, ◌≤◌, ◌<◌, length, take};
 ghost use Rattle.std.proofs.lemmas.List.Edits.{sets};
 ghost use Rattle.names.specs.Features.{most_features};

@@ -1,5 +1,7 @@
 // Readings by id and week: sums and counts over entries in any order. Nothing here knows names, lines or an index.
 // The definitions: specs/.
+#![tactic(auto)]
+
 ghost use Rattle.std.specs.Prelude.{◌≡◌, ◌+◌, ◌*◌, ◌≤◌, ◌<◌, min, length, get_or, set};
 ghost use Rattle.laws.specs.Sort.{sort_of, Sorted};
 ghost use Rattle.weeks.specs.Pairs.{week_of, pair_of, entry_of, id_in, week_in, pair_in, amount, tally, pairs_of, as_columns, room_of, columns_of, columns_over, paired_of, columns_after};

@@ -1,4 +1,6 @@
 // The index words one by one: where each stands, and what it says. The rule: docs/RULE.md, "Index words"; the definitions: specs/.
+#![tactic(auto)]
+
 ghost use Rattle.std.specs.Prelude.{◌≡◌, ◌+◌, ◌*◌, ◌^◌, ◌≤◌, ◌<◌, length, get_or};
 ghost use Rattle.words.specs.Words.{head_width, name_count, row_count, posting_count, name_width, name_start, name_id, name_size, row_width, row_start, row_size, row_feature, row_place, row_length, row_key, postings_start, part_rows, part_feature, part_place, part_length};
 
