@@ -38,7 +38,7 @@ returns c =
     let b = c.before.before.before.before in
     let a = b.args in
     entered a.outcome a.day a.reading a.k a.entries.now _ _ b.requires
-    (c.before.entry.ensures ∙ ap (λ (v : ℕ). entry_of (pair_of v (week_of a.day)) a.reading) c.before.before.value_of_lem.ensures)
+    (c.before.entry.ensures ∙ ap (λ (v : ℕ). entry_of (pair_of v (week_of a.day)) a.reading) c.before.before.value_of.ensures)
     c.entries-of.ensures
 
 pub add-entry-spec : {M : Type 1} → statement M

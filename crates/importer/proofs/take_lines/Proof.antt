@@ -107,7 +107,7 @@ loop-again c =
     let y : l.n < length b.args.values.now = omega arith in (
       t.next,
       e.room ∙ l.invariant.1,
-      told_turn _ _ _ _ _ _ _ _ l.invariant.2 t.more _ _ _ _ _ _ t.line h.0 h.1 h.2 c.before.before.before.before.before.case-of.ensures c.before.before.before.before.value_of_lem.ensures x y _ _ e,
+      told_turn _ _ _ _ _ _ _ _ l.invariant.2 t.more _ _ _ _ _ _ t.line h.0 h.1 h.2 c.before.before.before.before.before.case-of.ensures c.before.before.before.before.value_of.ensures x y _ _ e,
     )
 
 same_length : tie.Need-same-length invariant-loop decreases-loop

@@ -52,7 +52,7 @@ loop-again c =
     let t = c.before.before.loop-test.true in (
       omega arith,
       simp length-set l.invariant.1,
-      ap₂ (λ (o : List ℕ) (v : ℕ). set o l.i (v / 256)) l.invariant.2 c.word_at_lem.ensures ∙ over_step (λ (k : ℕ). id_at a.names.now (get_or a.keys.now k 0)) l.i a.out.now (omega arith),
+      ap₂ (λ (o : List ℕ) (v : ℕ). set o l.i (v / 256)) l.invariant.2 c.word_at.ensures ∙ over_step (λ (k : ℕ). id_at a.names.now (get_or a.keys.now k 0)) l.i a.out.now (omega arith),
     )
 
 same_length : tie.Need-same-length invariant-loop decreases-loop

@@ -64,7 +64,7 @@ returns c =
     let h = b.requires.0 in
     let ts = triples_at a.names.now a.keys.now in
     at_new ts a.out.now a.i a.d (within b) (sym c.before.before.before.before.before.before.before.begins-row.ensures ∙ c.before.before.before.before.before.before.if1.true) b.requires.2 _
-    (c.before.before.new_row.ensures ∙ ap₂ (λ (x y : ℕ). new_row x y a.i a.out.now a.d) (ap (λ (x : ℕ). x % 256) c.before.before.before.before.word_at_lem.ensures ∙ sym (triple_size q a.i h)) (sym (triple_feature q a.i h)))
+    (c.before.before.new_row.ensures ∙ ap₂ (λ (x y : ℕ). new_row x y a.i a.out.now a.d) (ap (λ (x : ℕ). x % 256) c.before.before.before.before.word_at.ensures ∙ sym (triple_size q a.i h)) (sym (triple_feature q a.i h)))
 
 grow-row-requires : tie.Need-grow-row-requires
 grow-row-requires c κs =

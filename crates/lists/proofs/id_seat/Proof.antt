@@ -48,14 +48,14 @@ part-seat-in-end c = search rules
 seat-in-requires : tie.Need-seat-in-requires
 seat-in-requires c κs =
     let a = c.before.before.before.before.before.args in
-    let e = part a.words.now a.r _ _ _ c.before.before.before.postings_start_lem.ensures.0 c.before.before.row-place.ensures.0 c.before.row-length.ensures.0 in
+    let e = part a.words.now a.r _ _ _ c.before.before.before.postings_start.ensures.0 c.before.before.row-place.ensures.0 c.before.row-length.ensures.0 in
     rw e c.before.before.before.before.before.requires.2
 
 returns : tie.Need-returns
 returns c =
     let b = c.before in
     let a = b.before.before.before.before.before.args in
-    let e = part a.words.now a.r _ _ _ b.before.before.before.postings_start_lem.ensures.0 b.before.before.row-place.ensures.0 b.before.row-length.ensures.0 in
+    let e = part a.words.now a.r _ _ _ b.before.before.before.postings_start.ensures.0 b.before.before.row-place.ensures.0 b.before.row-length.ensures.0 in
     c.seat-in.ensures ∙ ap (λ (l : List ℕ). seat_of l a.id) e
 
 pub id-seat-spec : {M : Type 1} → statement M

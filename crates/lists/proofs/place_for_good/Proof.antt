@@ -11,7 +11,7 @@ postings-start-requires : tie.Need-postings-start-requires
 postings-start-requires c κs = good_three _ c.before.before.requires
 
 place-among-requires : tie.Need-place-among-requires
-place-among-requires c κs = (c.before.before.before.requires, c.before.rows-of-size.ensures.words, c.postings_start_lem.ensures.0)
+place-among-requires c κs = (c.before.before.before.requires, c.before.rows-of-size.ensures.words, c.postings_start.ensures.0)
 
 returns : tie.Need-returns
 returns c = c.place-among.ensures

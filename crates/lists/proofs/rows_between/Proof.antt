@@ -30,7 +30,7 @@ row-start-requires-2 c κs = let f = few c.before.before in (good_three _ c.befo
 
 -- where the rows start and end
 pub record Bounds (c : tie.After-row-start2) : Type 0 where
-  pub start : c.before.row_start_lem.result ≡ row_start c.before.before.before.args.words.now (rows_under c.before.before.before.args.words.now c.before.before.before.args.size)
+  pub start : c.before.row_start.result ≡ row_start c.before.before.before.args.words.now (rows_under c.before.before.before.args.words.now c.before.before.before.args.size)
   pub end : c.row-start2.result ≡ row_start c.before.before.before.args.words.now (rows_under c.before.before.before.args.words.now (c.before.before.before.args.size + 1))
   pub order : rows_under c.before.before.before.args.words.now c.before.before.before.args.size ≤ rows_under c.before.before.before.args.words.now (c.before.before.before.args.size + 1)
   pub within : c.row-start2.result ≤ length c.before.before.before.args.words.now
@@ -42,7 +42,7 @@ bounds c =
     let n : c.row-start2.result ≡ row_start w (rows_under w (s.args.size + 1)) = c.row-start2.ensures.0 ∙ ap (row_start w) s.requires.2 in
     let e = part_end w s.requires.0 s.args.size in
     record {
-      start = c.before.row_start_lem.ensures.0 ∙ ap (row_start w) s.requires.1;
+      start = c.before.row_start.ensures.0 ∙ ap (row_start w) s.requires.1;
       end = n;
       order = under_next w s.args.size;
       within = omega arith;
@@ -69,7 +69,7 @@ returns c =
     let st = b.start in
     let en = b.end in
     let o = b.order in
-    let n : c.before.row-start2.result - c.before.before.row_start_lem.result ≡ row_width * (rows_under w (s.args.size + 1) - rows_under w s.args.size) = omega arith in
+    let n : c.before.row-start2.result - c.before.before.row_start.result ≡ row_width * (rows_under w (s.args.size + 1) - rows_under w s.args.size) = omega arith in
     record { words = ap₂ (λ (k m : ℕ). take m (drop k w)) st n; block = refl; place = rw st (search rules) }
 
 pub rows-between-spec : {M : Type 1} → statement M

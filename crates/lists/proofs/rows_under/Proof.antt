@@ -32,14 +32,14 @@ place-in-column-requires : tie.Need-place-in-column-requires
 place-in-column-requires c κs =
     let s = c.before.before.before in
     let n = c.before.reach in
-    sizes_searched s.args.words.now s.requires.0 s.args.known n.result c.row_start_lem.result n.ensures.0 c.row_start_lem.ensures.0
+    sizes_searched s.args.words.now s.requires.0 s.args.known n.result c.row_start.result n.ensures.0 c.row_start.ensures.0
 
 -- with those that are found, they are all
 found : (c : tie.After-place-in-column) → let a = c.before.before.before.before.args in a.known + c.place-in-column.result ≡ rows_under a.words.now a.size
 found c =
     let s = c.before.before.before.before in
     let n = c.before.before.reach in
-    let b = c.before.row_start_lem in
+    let b = c.before.row_start in
     under_found s.args.words.now s.requires.0 s.args.known n.result b.result n.ensures.0 b.ensures.0 s.args.size c.place-in-column.result s.requires.1 n.ensures.1 c.place-in-column.ensures
 
 add-result : tie.Need-overflow-add-result

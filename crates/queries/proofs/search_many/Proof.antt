@@ -66,7 +66,7 @@ returns c =
     let d = as_columns a.ids.now a.shared.now a.sizes.now a.least.now in
     asked a.bytes.now a.ends.now a.measure a.p a.q a.allowance a.words.now o _ d _ _ _ y.result.queries y.result.rows _
     c.before.before.before.before.before.before.before.before.before.before.before.before.before.before.before.before.before.before.before.before.before.before.before.before.before.before.room_of.ensures c.before.before.before.before.before.before.before.before.before.before.before.before.before.before.before.before.before.before.before.before.before.before.before.before.before.room-of2.ensures
-    y.ensures.0.0 y.ensures.0.1 c.before.before.number_of_lem.ensures y.ensures.1.0 y.ensures.1.1
+    y.ensures.0.0 y.ensures.0.1 c.before.before.number_of.ensures y.ensures.1.0 y.ensures.1.1
 
 pub search-many-spec : {M : Type 1} → statement M
 search-many-spec =

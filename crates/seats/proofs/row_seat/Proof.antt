@@ -31,7 +31,7 @@ row-start-requires : tie.Need-row-start-requires
 row-start-requires c κs = let b = c.before in let s = within b in (good_three b.args.words.now b.requires.0, omega arith)
 
 add-first : tie.Need-overflow-add-first
-add-first c = let s = within c.before.before in let e = c.row_start_lem.ensures.0 in omega arith
+add-first c = let s = within c.before.before in let e = c.row_start.ensures.0 in omega arith
 
 sub-place-in-column : tie.Need-overflow-sub-place-in-column
 sub-place-in-column c = let s = within c.before.before in omega arith
@@ -42,7 +42,7 @@ place-in-column-requires c κs =
     let a = b.args in
     let e = b.requires.1 in
     let f = b.requires.2 in
-    features_searched a.words.now b.requires.0 a.size a.from (a.to - a.from) c.row_start_lem.result e (omega arith) c.row_start_lem.ensures.0
+    features_searched a.words.now b.requires.0 a.size a.from (a.to - a.from) c.row_start.result e (omega arith) c.row_start.ensures.0
 
 -- what the search tells
 found : (c : tie.After-place-in-column)
@@ -52,7 +52,7 @@ found c =
     let k = c.before.before in
     let b = k.before in
     let a = b.args in
-    let s = c.before.row_start_lem in
+    let s = c.before.row_start in
     let e = b.requires.1 in
     let f = b.requires.2 in
     seat_found a.words.now b.requires.0 (fits k) a.size a.feature (omega arith)

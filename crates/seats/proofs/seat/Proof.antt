@@ -120,7 +120,7 @@ put-row-requires c κs =
     let h = (new c.before.before.before.before).2 in
     let n = rows_few b.args.words.now b.requires.0 in
     let k = good_names_most b.args.words.now b.requires.0 in
-    let s = c.before.before.row_start_lem.ensures.0 in
+    let s = c.before.before.row_start.ensures.0 in
     let u = b.requires.3 in
     let v = b.requires.4 in
     (omega arith, omega arith, omega arith)
@@ -147,8 +147,8 @@ returns-2 c =
     let a = b.args in
     let w = a.words.now in
     let h = new v in
-    let place = s.row_start_lem.ensures.0 ∙ ap (row_start w) h.1 in
-    let p = put_new (all_rows_in w) (name_start (name_count w)) a.size a.feature a.at.now a.values.now a.n s.row_start_lem.result _ _ h.0 place b.requires.3 b.requires.4 d.put-row.ensures.0 d.put-row.ensures.1 in
+    let place = s.row_start.ensures.0 ∙ ap (row_start w) h.1 in
+    let p = put_new (all_rows_in w) (name_start (name_count w)) a.size a.feature a.at.now a.values.now a.n s.row_start.result _ _ h.0 place b.requires.3 b.requires.4 d.put-row.ensures.0 d.put-row.ensures.1 in
     (c.list-seat2.ensures ∙ sym (posting_new w b.requires.0 (fits k) a.size a.feature a.id v.row2.given.0.0 (missing v)), p.count, p.places, p.words)
 
 pub seat-spec : {M : Type 1} → statement M

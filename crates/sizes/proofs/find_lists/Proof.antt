@@ -100,7 +100,7 @@ shared-slice-read-place-among c = omega arith
 place-among-requires : tie.Need-place-among-requires invariant-loop decreases-loop
 place-among-requires c κs =
     let b = c.before.before.before.before.before.before.before.before.before in
-    (b.requires.0, c.before.before.before.before.rows-between.ensures.words, c.before.before.before.postings_start_lem.ensures.0)
+    (b.requires.0, c.before.before.before.before.rows-between.ensures.words, c.before.before.before.postings_start.ensures.0)
 
 mul-key : tie.Need-overflow-mul-key invariant-loop decreases-loop
 mul-key c = let n = (counts c).1 in omega arith

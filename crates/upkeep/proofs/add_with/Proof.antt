@@ -32,8 +32,8 @@ three : (c : tie.Start) → head_width ≤ length c.args.words.now
 three c = good_three c.args.words.now c.requires.0.good
 
 -- where the index ends, and how many words come in
-all : (c : tie.After-postings-start) → c.postings_start_lem.result + c.before.before.posting-count.result ≡ total (start c).args.words.now
-all c = let a = c.postings_start_lem.ensures.0 in let b = c.before.before.posting-count.ensures.0 in omega arith
+all : (c : tie.After-postings-start) → c.postings_start.result + c.before.before.posting-count.result ≡ total (start c).args.words.now
+all c = let a = c.postings_start.ensures.0 in let b = c.before.before.posting-count.ensures.0 in omega arith
 
 many : (c : tie.After-postings-start) → let a = (start c).args in (filled c).put-words.result ≡ length (cuts_for a.words.now a.id a.features.now)
 many c = (filled c).put-words.ensures.0
@@ -65,7 +65,7 @@ moved : (c : tie.After-put-in) → let a = (start c.before.before.before.before.
 moved c =
     let p = c.before.before.before.before.before in
     let x = (filled p).put-words in
-    put_done (start p).requires.0 (wide (known p)) (take x.result x.last.1.1.1.1.0) (take x.result x.last.1.1.1.1.1.0) (p.postings_start_lem.result + p.before.before.posting-count.result) x.ensures.1 x.ensures.2 (all p) c.put_in.new.0 c.put_in.ensures
+    put_done (start p).requires.0 (wide (known p)) (take x.result x.last.1.1.1.1.0) (take x.result x.last.1.1.1.1.1.0) (p.postings_start.result + p.before.before.posting-count.result) x.ensures.1 x.ensures.2 (all p) c.put_in.new.0 c.put_in.ensures
 
 -- the names, rows and postings that there are then
 abbrev names : tie.After-postings-start → ℕ
@@ -143,7 +143,7 @@ put-in-requires : tie.Need-put-in-requires
 put-in-requires c κs =
     let p = c.before.before.before.before in
     let x = (filled p).put-words in
-    put_may (start p).requires.0 (wide (known p)) (take x.result x.last.1.1.1.1.0) (take x.result x.last.1.1.1.1.1.0) (p.postings_start_lem.result + p.before.before.posting-count.result) x.ensures.1 x.ensures.2 (all p) (room c.before.before.before)
+    put_may (start p).requires.0 (wide (known p)) (take x.result x.last.1.1.1.1.0) (take x.result x.last.1.1.1.1.1.0) (p.postings_start.result + p.before.before.posting-count.result) x.ensures.1 x.ensures.2 (all p) (room c.before.before.before)
 
 sub-new : tie.Need-overflow-sub-new
 sub-new c = let m = (small c.before.before.before.before.before.before.before).2 in omega arith

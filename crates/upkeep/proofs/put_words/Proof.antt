@@ -81,7 +81,7 @@ put-postings-requires c κs =
     let k = at-kept x in
     let e = x.put-seats.ensures.3 in
     let n = length_seats s.pre.0 v x.put-seats.new.1.1.1.1.1.1.0 e in
-    let m = c.before.postings_start_lem.ensures.0 in
+    let m = c.before.postings_start.ensures.0 in
     let t = total_small s.pre.0 v in
     let r = s.pre.1 in
     (omega arith, λ i h. (let b = seat_within s.pre.0 v x.put-seats.new.1.1.1.1.1.1.0 i e h in omega arith))
@@ -131,7 +131,7 @@ returns c =
     let h = s.pre.1 in
     let l = s.pre.2 in (
       count x,
-      places_put s.pre.0 v s.args.at.now x.put-seats.new.1.1.1.0 p.put-postings.new.1.1.0 x.put-seats.new.1.1.1.1.1.1.0 x.put-seats.result p.before.before.postings_start_lem.result (omega arith) y.1 y.3 p.before.before.postings_start_lem.ensures.0 p.put-postings.ensures,
+      places_put s.pre.0 v s.args.at.now x.put-seats.new.1.1.1.0 p.put-postings.new.1.1.0 x.put-seats.new.1.1.1.1.1.1.0 x.put-seats.result p.before.before.postings_start.result (omega arith) y.1 y.3 p.before.before.postings_start.ensures.0 p.put-postings.ensures,
       words_put s.pre.0 v s.args.values.now x.put-seats.new.1.1.1.1.0 c.before.before.put-ids.new.1.0 x.put-seats.result (omega arith) (omega arith) y.2 c.before.before.put-ids.ensures,
     )
 

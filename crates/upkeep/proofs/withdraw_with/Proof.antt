@@ -39,7 +39,7 @@ abbrev postings : tie.After-name-size → ℕ
 postings c = c.before.before.before.before.posting-count.result
 
 abbrev first : tie.After-name-size → ℕ
-first c = c.before.before.postings_start_lem.result
+first c = c.before.before.postings_start.result
 
 -- ---- what is known there
 
@@ -56,7 +56,7 @@ here c =
 
 -- where the words in use end
 end : (c : tie.After-name-size) → first c + postings c ≡ total (start c).args.words.now
-end c = ap₂ ◌+◌ c.before.before.postings_start_lem.ensures.0 c.before.before.before.before.posting-count.ensures.0
+end c = ap₂ ◌+◌ c.before.before.postings_start.ensures.0 c.before.before.before.before.posting-count.ensures.0
 
 -- the table of places is as long as it was, and both tables hold what is noted
 same : (c : tie.After-note-rows) → length c.note-rows.new.1.1.1.0 ≡ length (start (sized c)).args.at.now
@@ -95,7 +95,7 @@ table c =
     let n = (noted c).note-rows in
     let z = sized (noted c) in
     let l = (start z).pre.3 in
-    cuts_put (here z) (start z).args.at.now n.last.1.1.1.0 c.put-postings.new.1.1.0 (take n.result.postings n.last.1.1.1.1.1.0) n.result.rows n.result.postings (first z) (omega arith) n.ensures.2 n.ensures.1 z.before.before.postings_start_lem.ensures.0 n.ensures.4 c.put-postings.ensures
+    cuts_put (here z) (start z).args.at.now n.last.1.1.1.0 c.put-postings.new.1.1.0 (take n.result.postings n.last.1.1.1.1.1.0) n.result.rows n.result.postings (first z) (omega arith) n.ensures.2 n.ensures.1 z.before.before.postings_start.ensures.0 n.ensures.4 c.put-postings.ensures
 
 -- the words without those that go
 cut : (c : tie.After-take-out) → let a = (start (sized (noted (put c)))).args in c.take_out.new.0 ≡ cut_out a.words.now a.id a.place
@@ -163,7 +163,7 @@ put-postings-requires c κs =
     let e = n.note-rows.ensures in
     let r = (room n).1 in
     let k = e.1 ∙ sym (ap length e.2) in
-    (omega arith, ids_fit (here z) (first z) z.before.before.postings_start_lem.ensures.0 (take n.note-rows.result.postings n.note-rows.new.1.1.1.1.1.0) e.2)
+    (omega arith, ids_fit (here z) (first z) z.before.before.postings_start.ensures.0 (take n.note-rows.result.postings n.note-rows.new.1.1.1.1.1.0) e.2)
 
 add-many : tie.Need-overflow-add-many
 add-many c = let r = (room c.before.before.before.before.before.before.before.before.before.before.before).2 in record { fits = omega arith }

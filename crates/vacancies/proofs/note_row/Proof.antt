@@ -45,7 +45,7 @@ stored : (c : tie.After-row-start)
     → let f = c.before.before.before.before in
     let a = (start f).args in
     let w = a.words.now in
-    (set w (c.row_start_lem.result + 3) (f.row-length.result - 1) ≡ set w (row_start w a.r + length_column) (row_length w a.r - 1))
+    (set w (c.row_start.result + 3) (f.row-length.result - 1) ≡ set w (row_start w a.r + length_column) (row_length w a.r - 1))
     × (take (a.k + 1) (set a.postings.now a.k (c.before.before.row-place.result + place f))
     ≡ take a.k a.postings.now ++ ((row_place w a.r + place_of a.id (list_at w a.r)) ∷ []))
 stored c =
@@ -54,7 +54,7 @@ stored c =
     let w = a.words.now in
     let p = a.postings.now in
     let h = found f in (
-      ap₂ (λ (x y : ℕ). set w (x + 3) (y - 1)) c.row_start_lem.ensures.0 f.row-length.ensures.0,
+      ap₂ (λ (x y : ℕ). set w (x + 3) (y - 1)) c.row_start.ensures.0 f.row-length.ensures.0,
       take_behind p a.k (c.before.before.row-place.result + place f) h.3
           ∙ ap₂ (λ (x y : ℕ). take a.k p ++ ((x + y) ∷ [])) c.before.before.row-place.ensures.0 h.1,
     )
@@ -161,7 +161,7 @@ returns-3 c =
       h.1,
       refl,
       take_sets a.at.now _ a.n _ c.before.before.put-places.ensures (omega arith)
-          ∙ ap (λ (x : ℕ). take a.n a.at.now ++ (x ∷ (x + 1) ∷ (x + 2) ∷ (x + 3) ∷ [])) b.row_start_lem.ensures.0,
+          ∙ ap (λ (x : ℕ). take a.n a.at.now ++ (x ∷ (x + 1) ∷ (x + 2) ∷ (x + 3) ∷ [])) b.row_start.ensures.0,
     )
 
 add-t24 : tie.Need-overflow-add-t24
