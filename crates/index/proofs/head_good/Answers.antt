@@ -17,14 +17,12 @@ returns-then-postings-gt-MOST_POSTINGS c =
     let e = c.posting_count-postings.ensures.0 in
     sym (head_long c.args.words.now (omega arith))
 
--- not turned: no step `postings_start_lem` above After-postings_start
--- pub returns : goal.returns
--- returns-4 : tie.Need-returns-4
--- returns-4 c =
---     let w = c.before.before.before.before.before.before.before.args.words.now in
---     let n = c.before.before.before.before.name-count.ensures.0 in
---     let h = c.before.before.before.if2.false in
---     let p = c.before.before.posting-count in
---     head_last w c.postings_start_lem.result p.result c.before.before.before.before.before.if1.false (omega arith) c.before.if3.false
---     c.postings_start_lem.ensures.0
---     p.ensures.0
+pub returns : goal.returns
+returns c =
+    let w = c.args.words.now in
+    let n = c.name_count.ensures.0 in
+    let h = c.if-name_count-gt-MOST_NAMES.false in
+    let p = c.posting_count-postings in
+    head_last w c.postings_start.result p.result c.if-n-lt-HEAD_WIDTH.false (omega arith) c.if-postings-gt-MOST_POSTINGS.false
+    c.postings_start.ensures.0
+    p.ensures.0

@@ -1,15 +1,16 @@
 -- `list_good` meets its contract: what was looked at of the first k ids is good, and the tally has them.
-use mathlib.Core.Path.{◌≡◌, refl, sym, ap, ◌∙◌}
+use mathlib.Core.Path.{◌≡◌, refl, sym, ap, ap₂, ◌∙◌}
 use mathlib.Core.Logic.{⊎_elim}
 use mathlib.Core.Bool.{false≢true}
 use Prim.Native.Nat.{ℕ, ◌+◌, ◌-◌, ◌≤◌, ◌<◌}
 use native.Mathlib.Nat.{eq-or-lt_of_le}
 use native.Mathlib.Omega.{arith}
-use lib.ListN.{length, length-set}
-use Rattle.words.specs.Words.{row_start, row_width, name_count, row_length, row_size}
+use lib.ListN.{length, get_or, set, length-set}
+use Rattle.words.specs.Words.{row_start, row_width, name_count, row_length, row_size, list_start}
 use Rattle.words.proofs.Laws.{row_in_lem}
+use Rattle.index.specs.Check.{name_for}
 use Rattle.index.proofs.Facts.{head_facts}
-use Rattle.index.proofs.Tally.{id_at, list_start_lem, list_out, list_unnamed, list_whole}
+use Rattle.index.proofs.Tally.{ListTo, id_at, id_read, id_in_lem, list_start_lem, list_out, list_unnamed, list_more, tally_most, list_whole}
 use Rattle.index.proofs.list_good.Goals as goal
 
 pub name_count-names-requires : goal.name_count-names-requires
@@ -27,6 +28,7 @@ row_place-requires c = in_row c
 
 pub overflow_add-first : goal.overflow_add-first
 overflow_add-first c =
+    let s = c.postings_start.ensures.1 in
     let p = c.row_place.ensures.1 in
     omega arith
 
@@ -50,44 +52,90 @@ loop-k-init c = (list_start_lem _ _ _ c.requires.4, refl, ((λ e. refl), (λ z. 
 from_zero : (k : ℕ) → 0 ≤ k
 from_zero k = omega arith
 
--- not turned: no step `postings_start_lem` above In-loop-k
--- pub overflow_add-id : goal.overflow_add-id
--- add-id : tie.Need-overflow-add-id invariant-loop decreases-loop
--- add-id c = let h = inside c c.before.loop.k (omega arith) in omega arith
+-- where the row's list starts
+abbrev first : goal.In-loop-k → ℕ
+first l = l.postings_start.result + l.row_place.result
+
+first-at : (l : goal.In-loop-k) → first l ≡ list_start l.args.words.now l.args.r
+first-at l =
+    let s = l.postings_start.ensures.0 in
+    let p = l.row_place.ensures.0 in
+    omega arith
+
+-- in the loop, ids up to the present one lie within the slice
+inside : (c : goal.In-loop-k) (k : ℕ) → k ≤ c.loop-k.k → first c + k < length c.args.words.now
+inside c k h =
+    let n = c.row_length-count.ensures.0 in
+    let t = c.loop-k-test.true in
+    id_in_lem c.args.words.now c.requires.0 c.args.r c.requires.2 k (first c) (first-at c) (omega arith)
+
+pub overflow_add-id : goal.overflow_add-id
+overflow_add-id c = let h = inside c c.loop-k.k (omega arith) in omega arith
 
 pub offset_bounds-words-first : goal.offset_bounds-words-first
 offset_bounds-words-first c = let h = inside c c.loop-k.k (omega arith) in omega arith
 
--- not turned: no step `postings_start_lem` above After-shared_slice_known-in-loop-k-1-unread
--- pub bounds-words-first : goal.bounds-words-first
--- shared-slice-read-id : tie.Need-shared-slice-read-id invariant-loop decreases-loop
--- shared-slice-read-id c = let h = inside c.before c.before.before.loop.k (omega arith) in omega arith
+-- `first`, at another place
+abbrev first-2 : goal.After-shared_slice_known-in-loop-k-1-unread → ℕ
+first-2 l = l.postings_start.result + l.row_place.result
 
--- not turned: no step `postings_start_lem` above After-shared_slice_known-in-loop-k-1
--- pub overflow_cast-id : goal.overflow_cast-id
--- cast-if1 : tie.Need-overflow-cast-if1 invariant-loop decreases-loop
--- cast-if1 c =
---     let l = c.before.before in
---     omega (arith, l.before.before.before.before.before.before.before.before.shared-slice-known.given (first l + l.loop.k))
+-- `first-at`, at another place
+first-at-2 : (l : goal.After-shared_slice_known-in-loop-k-1-unread) → first-2 l ≡ list_start l.args.words.now l.args.r
+first-at-2 l =
+    let s = l.postings_start.ensures.0 in
+    let p = l.row_place.ensures.0 in
+    omega arith
+
+-- `inside`, at another place
+inside-2 : (c : goal.After-shared_slice_known-in-loop-k-1-unread) (k : ℕ) → k ≤ c.loop-k.k → first-2 c + k < length c.args.words.now
+inside-2 c k h =
+    let n = c.row_length-count.ensures.0 in
+    let t = c.loop-k-test.true in
+    id_in_lem c.args.words.now c.requires.0 c.args.r c.requires.2 k (first-2 c) (first-at-2 c) (omega arith)
+
+pub bounds-words-first : goal.bounds-words-first
+bounds-words-first c = let h = inside-2 c c.loop-k.k (omega arith) in omega arith
+
+-- `first`, at another place
+abbrev first-3 : goal.After-shared_slice_known-in-loop-k-1 → ℕ
+first-3 l = l.postings_start.result + l.row_place.result
+
+pub overflow_cast-id : goal.overflow_cast-id
+overflow_cast-id c =
+    omega (arith, c.type_inv.words (first-3 c + c.loop-k.k))
 
 pub shape_of-tally-then-id-next : goal.shape_of-tally-then-id-next
 shape_of-tally-then-id-next c = c.loop-k.invariant.1
 
--- not turned: no step `postings_start_lem` above Then-id-next
--- pub returns-then-id-next : goal.returns-then-id-next
--- returns : tie.Need-returns invariant-loop decreases-loop
--- returns c =
---     let i = c.before.before in
---     let l = i.before in
---     let s = start l in
---     let n = l.before.before.row-length.ensures.0 in
---     let t = i.loop-test.true in
---     let a = read l l.loop.k in
---     let h = c.if1.true in
---     let f = l.loop.invariant.2 in
---     let later : 0 < l.loop.k = ⊎_elim (λ (e : 0 ≡ l.loop.k). let z = f.0 (sym e) in absurd (omega arith)) (λ (d : 0 < l.loop.k). d) (eq-or-lt_of_le (from_zero l.loop.k)) in
---     let b = f.1 later in
---     (sym (list_out s.args.words.now s.args.r l.loop.k (omega arith) later (omega arith)), λ e. absurd (false≢true e))
+-- `first`, at another place
+abbrev first-4 : goal.Then-id-next → ℕ
+first-4 l = l.postings_start.result + l.row_place.result
+
+-- `first-at`, at another place
+first-at-3 : (l : goal.Then-id-next) → first-4 l ≡ list_start l.args.words.now l.args.r
+first-at-3 l =
+    let s = l.postings_start.ensures.0 in
+    let p = l.row_place.ensures.0 in
+    omega arith
+
+-- the id that is read is the row's k-th
+read : (l : goal.Then-id-next) (k : ℕ)
+    → get_or l.args.words.now (first-4 l + k) 0 ≡ id_at l.args.words.now l.args.r k
+read l k = id_read l.args.words.now l.args.r k (first-4 l) (first-at-3 l)
+
+pub returns-then-id-next : goal.returns-then-id-next
+returns-then-id-next c =
+    let n = c.row_length-count.ensures.0 in
+    let t = c.loop-k-test.true in
+    let a = read c c.loop-k.k in
+    let h = c.if-id-next.true in
+    let f = c.loop-k.invariant.2 in
+    let later : 0 < c.loop-k.k = ⊎_elim (λ (e : 0 ≡ c.loop-k.k). let z = f.0 (sym e) in absurd (omega arith)) (λ (d : 0 < c.loop-k.k). d) (eq-or-lt_of_le (from_zero c.loop-k.k)) in
+    let b = f.1 later in
+    record {
+      value = sym (list_out c.args.words.now c.args.r c.loop-k.k (omega arith) later (omega arith));
+      tallied = λ e. absurd (false≢true e);
+    }
 
 pub name_near-at-requires : goal.name_near-at-requires
 name_near-at-requires c = (c.requires.0.named, c.requires.1)
@@ -95,40 +143,195 @@ name_near-at-requires c = (c.requires.0.named, c.requires.1)
 pub shape_of-tally-then-names-at : goal.shape_of-tally-then-names-at
 shape_of-tally-then-names-at c = c.loop-k.invariant.1
 
--- not turned: no step `postings_start_lem` above Then-names-at
--- pub returns-then-names-at : goal.returns-then-names-at
--- returns-2 : tie.Need-returns-2 invariant-loop decreases-loop
--- returns-2 c =
---     let l = c.before.before.before.before.before in
---     let s = start l in
---     let n = l.before.before.row-length.ensures.0 in
---     let t = c.before.before.before.before.loop-test.true in
---     let m = l.before.before.before.before.before.name-count.ensures.0 in
---     let f = found c.before in
---     (sym (list_unnamed s.args.words.now s.args.r l.loop.k (omega arith) (omega arith)), λ e. absurd (false≢true e))
+-- `first`, at another place
+abbrev first-5 : goal.Then-names-at → ℕ
+first-5 l = l.postings_start.result + l.row_place.result
 
--- not turned: no step `postings_start_lem` above Else-names-at
--- pub offset_bounds-tally-at : goal.offset_bounds-tally-at
--- mul-tally : tie.Need-overflow-mul-tally invariant-loop decreases-loop
--- mul-tally c =
---     let h = (step c).0 in
---     let l = c.before.before.before.before.before in
---     let x = l.loop.invariant.1 in
---     omega arith
+-- `first-at`, at another place
+first-at-4 : (l : goal.Then-names-at) → first-5 l ≡ list_start l.args.words.now l.args.r
+first-at-4 l =
+    let s = l.postings_start.ensures.0 in
+    let p = l.row_place.ensures.0 in
+    omega arith
 
--- not turned: no step `postings_start_lem` above After-slice_known-in-loop-k-1-unread
--- pub bounds-tally-at : goal.bounds-tally-at
--- slice-read-tally : tie.Need-slice-read-tally invariant-loop decreases-loop
--- slice-read-tally c = (step c.before).0
+-- `read`, at another place
+read-2 : (l : goal.Then-names-at) (k : ℕ)
+    → get_or l.args.words.now (first-5 l + k) 0 ≡ id_at l.args.words.now l.args.r k
+read-2 l k = id_read l.args.words.now l.args.r k (first-5 l) (first-at-4 l)
 
--- not turned: no step `postings_start_lem` above After-slice_known-in-loop-k-1
--- pub overflow_add-tally : goal.overflow_add-tally
--- add-tally : tie.Need-overflow-add-tally invariant-loop decreases-loop
--- add-tally c =
---     let h = (step c.before).1 in
---     let l = c.before.before.before.before.before.before in
---     let r = (start l).requires.2 in
---     omega (arith, l.before.before.before.before.before.before.before.before.shared-slice-known.given 1)
+-- the place that was found is that of the row's k-th id
+found : (c : goal.Then-names-at)
+    → let w = c.args.words.now in
+    c.name_near-at.result ≡ name_for w (row_size w c.args.r) (id_at w c.args.r c.loop-k.k)
+found c =
+    c.name_near-at.ensures ∙ ap₂ (name_for c.args.words.now) c.row_size-size.ensures (read-2 c c.loop-k.k)
+
+pub returns-then-names-at : goal.returns-then-names-at
+returns-then-names-at c =
+    let n = c.row_length-count.ensures.0 in
+    let t = c.loop-k-test.true in
+    let m = c.name_count-names.ensures.0 in
+    let f = found c in
+    record {
+      value = sym (list_unnamed c.args.words.now c.args.r c.loop-k.k (omega arith) (omega arith));
+      tallied = λ e. absurd (false≢true e);
+    }
+
+-- `first`, at another place
+abbrev first-6 : goal.Else-names-at → ℕ
+first-6 l = l.postings_start.result + l.row_place.result
+
+-- `first-at`, at another place
+first-at-5 : (l : goal.Else-names-at) → first-6 l ≡ list_start l.args.words.now l.args.r
+first-at-5 l =
+    let s = l.postings_start.ensures.0 in
+    let p = l.row_place.ensures.0 in
+    omega arith
+
+-- `read`, at another place
+read-3 : (l : goal.Else-names-at) (k : ℕ)
+    → get_or l.args.words.now (first-6 l + k) 0 ≡ id_at l.args.words.now l.args.r k
+read-3 l k = id_read l.args.words.now l.args.r k (first-6 l) (first-at-5 l)
+
+-- `found`, at another place
+found-2 : (c : goal.Else-names-at)
+    → let w = c.args.words.now in
+    c.name_near-at.result ≡ name_for w (row_size w c.args.r) (id_at w c.args.r c.loop-k.k)
+found-2 c =
+    c.name_near-at.ensures ∙ ap₂ (name_for c.args.words.now) c.row_size-size.ensures (read-3 c c.loop-k.k)
+
+-- and is one more in the tally
+step : (c : goal.Else-names-at)
+    → let at = c.name_near-at.result in
+    (at < length c.loop-k.tally) × (get_or c.loop-k.tally at 0 ≤ c.args.r)
+    × ListTo c.args.words.now c.args.r (c.loop-k.k + 1) (set c.loop-k.tally at (get_or c.loop-k.tally at 0 + 1))
+step c =
+    let w = c.args.words.now in
+    let r = c.args.r in
+    let n = c.row_length-count.ensures.0 in
+    let t = c.loop-k-test.true in
+    let m = c.name_count-names.ensures.0 in
+    let x = c.loop-k.invariant.1 in
+    let long = c.requires.3 in
+    let a = read-3 c c.loop-k.k in
+    let above : 0 < c.loop-k.k → id_at w r (c.loop-k.k - 1) < id_at w r c.loop-k.k =
+    λ z. (let d = c.if-id-next.false in let f = c.loop-k.invariant.2.1 z in omega arith)
+    in
+    let more : c.loop-k.k < row_length w r = omega arith in
+    let name : c.name_near-at.result < name_count w = omega arith in (
+      omega arith,
+      tally_most w c.requires.0 r c.requires.2 c.loop-k.k c.loop-k.tally c.loop-k.invariant.0 more above c.name_near-at.result (found-2 c) name,
+      list_more w c.requires.0 r c.requires.2 c.loop-k.k c.loop-k.tally c.loop-k.invariant.0 more above c.name_near-at.result (found-2 c) name (omega arith),
+    )
+
+pub offset_bounds-tally-at : goal.offset_bounds-tally-at
+offset_bounds-tally-at c =
+    let h = (step c).0 in
+    let x = c.loop-k.invariant.1 in
+    omega arith
+
+-- `first`, at another place
+abbrev first-7 : goal.After-slice_known-in-loop-k-1-unread → ℕ
+first-7 l = l.postings_start.result + l.row_place.result
+
+-- `first-at`, at another place
+first-at-6 : (l : goal.After-slice_known-in-loop-k-1-unread) → first-7 l ≡ list_start l.args.words.now l.args.r
+first-at-6 l =
+    let s = l.postings_start.ensures.0 in
+    let p = l.row_place.ensures.0 in
+    omega arith
+
+-- `read`, at another place
+read-4 : (l : goal.After-slice_known-in-loop-k-1-unread) (k : ℕ)
+    → get_or l.args.words.now (first-7 l + k) 0 ≡ id_at l.args.words.now l.args.r k
+read-4 l k = id_read l.args.words.now l.args.r k (first-7 l) (first-at-6 l)
+
+-- `found`, at another place
+found-3 : (c : goal.After-slice_known-in-loop-k-1-unread)
+    → let w = c.args.words.now in
+    c.name_near-at.result ≡ name_for w (row_size w c.args.r) (id_at w c.args.r c.loop-k.k)
+found-3 c =
+    c.name_near-at.ensures ∙ ap₂ (name_for c.args.words.now) c.row_size-size.ensures (read-4 c c.loop-k.k)
+
+-- `step`, at another place
+step-2 : (c : goal.After-slice_known-in-loop-k-1-unread)
+    → let at = c.name_near-at.result in
+    (at < length c.loop-k.tally) × (get_or c.loop-k.tally at 0 ≤ c.args.r)
+    × ListTo c.args.words.now c.args.r (c.loop-k.k + 1) (set c.loop-k.tally at (get_or c.loop-k.tally at 0 + 1))
+step-2 c =
+    let w = c.args.words.now in
+    let r = c.args.r in
+    let n = c.row_length-count.ensures.0 in
+    let t = c.loop-k-test.true in
+    let m = c.name_count-names.ensures.0 in
+    let x = c.loop-k.invariant.1 in
+    let long = c.requires.3 in
+    let a = read-4 c c.loop-k.k in
+    let above : 0 < c.loop-k.k → id_at w r (c.loop-k.k - 1) < id_at w r c.loop-k.k =
+    λ z. (let d = c.if-id-next.false in let f = c.loop-k.invariant.2.1 z in omega arith)
+    in
+    let more : c.loop-k.k < row_length w r = omega arith in
+    let name : c.name_near-at.result < name_count w = omega arith in (
+      omega arith,
+      tally_most w c.requires.0 r c.requires.2 c.loop-k.k c.loop-k.tally c.loop-k.invariant.0 more above c.name_near-at.result (found-3 c) name,
+      list_more w c.requires.0 r c.requires.2 c.loop-k.k c.loop-k.tally c.loop-k.invariant.0 more above c.name_near-at.result (found-3 c) name (omega arith),
+    )
+
+pub bounds-tally-at : goal.bounds-tally-at
+bounds-tally-at c = (step-2 c).0
+
+-- `first`, at another place
+abbrev first-8 : goal.After-slice_known-in-loop-k-1 → ℕ
+first-8 l = l.postings_start.result + l.row_place.result
+
+-- `first-at`, at another place
+first-at-7 : (l : goal.After-slice_known-in-loop-k-1) → first-8 l ≡ list_start l.args.words.now l.args.r
+first-at-7 l =
+    let s = l.postings_start.ensures.0 in
+    let p = l.row_place.ensures.0 in
+    omega arith
+
+-- `read`, at another place
+read-5 : (l : goal.After-slice_known-in-loop-k-1) (k : ℕ)
+    → get_or l.args.words.now (first-8 l + k) 0 ≡ id_at l.args.words.now l.args.r k
+read-5 l k = id_read l.args.words.now l.args.r k (first-8 l) (first-at-7 l)
+
+-- `found`, at another place
+found-4 : (c : goal.After-slice_known-in-loop-k-1)
+    → let w = c.args.words.now in
+    c.name_near-at.result ≡ name_for w (row_size w c.args.r) (id_at w c.args.r c.loop-k.k)
+found-4 c =
+    c.name_near-at.ensures ∙ ap₂ (name_for c.args.words.now) c.row_size-size.ensures (read-5 c c.loop-k.k)
+
+-- `step`, at another place
+step-3 : (c : goal.After-slice_known-in-loop-k-1)
+    → let at = c.name_near-at.result in
+    (at < length c.loop-k.tally) × (get_or c.loop-k.tally at 0 ≤ c.args.r)
+    × ListTo c.args.words.now c.args.r (c.loop-k.k + 1) (set c.loop-k.tally at (get_or c.loop-k.tally at 0 + 1))
+step-3 c =
+    let w = c.args.words.now in
+    let r = c.args.r in
+    let n = c.row_length-count.ensures.0 in
+    let t = c.loop-k-test.true in
+    let m = c.name_count-names.ensures.0 in
+    let x = c.loop-k.invariant.1 in
+    let long = c.requires.3 in
+    let a = read-5 c c.loop-k.k in
+    let above : 0 < c.loop-k.k → id_at w r (c.loop-k.k - 1) < id_at w r c.loop-k.k =
+    λ z. (let d = c.if-id-next.false in let f = c.loop-k.invariant.2.1 z in omega arith)
+    in
+    let more : c.loop-k.k < row_length w r = omega arith in
+    let name : c.name_near-at.result < name_count w = omega arith in (
+      omega arith,
+      tally_most w c.requires.0 r c.requires.2 c.loop-k.k c.loop-k.tally c.loop-k.invariant.0 more above c.name_near-at.result (found-4 c) name,
+      list_more w c.requires.0 r c.requires.2 c.loop-k.k c.loop-k.tally c.loop-k.invariant.0 more above c.name_near-at.result (found-4 c) name (omega arith),
+    )
+
+pub overflow_add-tally : goal.overflow_add-tally
+overflow_add-tally c =
+    let h = (step-3 c).1 in
+    let r = c.requires.2 in
+    omega (arith, c.type_inv.words 1)
 
 pub bounds-tally-at-in-loop-k : goal.bounds-tally-at-in-loop-k
 bounds-tally-at-in-loop-k c = (step-3 c).0

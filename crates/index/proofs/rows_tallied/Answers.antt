@@ -3,7 +3,6 @@ use mathlib.Core.Path.{◌≡◌, refl, sym, ap, subst, ◌∙◌}
 use mathlib.Core.Bool.{true, false≢true}
 use Prim.Native.Nat.{ℕ, ◌-◌}
 use native.Mathlib.Omega.{arith}
-use borrow.Author.Tests.{not-true, not-false}
 use Rattle.laws.specs.Below.{all_below}
 use Rattle.laws.proofs.Below.{all_nil, all_fails}
 use Rattle.laws.proofs.FirstFound.{all_more}
@@ -26,37 +25,30 @@ list_good-requires c =
     let h = c.requires.2 in
     (c.requires.0, c.requires.1, omega arith, omega arith, c.loop-row.invariant.3)
 
--- not turned: no step `list_good_lem` above Then-not-list_good
--- pub shape_of-tally-then-not-list_good : goal.shape_of-tally-then-not-list_good
--- same_length : tie.Need-same-length invariant-loop decreases-loop
--- same_length c = c.before.before.before.list_good_lem.auto.1.1.1.0 ∙ c.before.before.before.before.before.before.loop.invariant.1
+pub shape_of-tally-then-not-list_good : goal.shape_of-tally-then-not-list_good
+shape_of-tally-then-not-list_good c = c.list_good.auto.tally ∙ c.loop-row.invariant.1
 
--- not turned: no step `list_good_lem` above Then-not-list_good
--- pub returns-then-not-list_good : goal.returns-then-not-list_good
--- returns : tie.Need-returns invariant-loop decreases-loop
--- returns c =
---     let l = c.before.before.before.before.before.before in
---     let s = l.before.before.before.before.before in
---     let n = l.before.row_count.ensures.0 in
---     let t = c.before.before.before.before.before.loop-test.true in
---     let g = c.before.before.before.list_good_lem.ensures.0 in
---     (sym (all_fails (row_count s.args.words.now) (list_good s.args.words.now) l.loop.row (omega arith) (sym g ∙ not-true _ c.if1.true)), λ e. absurd (false≢true e))
+pub returns-then-not-list_good : goal.returns-then-not-list_good
+returns-then-not-list_good c =
+    let n = c.row_count-rows.ensures.0 in
+    let t = c.loop-row-test.true in
+    let g = c.list_good.ensures.value in
+    record {
+      value = sym (all_fails (row_count c.args.words.now) (list_good c.args.words.now) c.loop-row.row (omega arith) (sym g ∙ c.if-not-list_good.true));
+      tallied = λ e. absurd (false≢true e);
+    }
 
--- not turned: no step `list_good_lem` above Else-not-list_good
--- pub loop-row-preserved : goal.loop-row-preserved
--- loop-again : tie.Need-loop-preserved invariant-loop decreases-loop
--- loop-again c =
---     let l = c.before.before.before.before.before.before in
---     let s = l.before.before.before.before.before in
---     let n = l.before.row_count.ensures.0 in
---     let t = c.before.before.before.before.before.loop-test.true in
---     let g = c.before.before.before.list_good_lem in
---     let yes-good = not-false _ c.if1.false in (
---       omega arith,
---       g.auto.1.1.1.0 ∙ l.loop.invariant.1,
---       all_more (list_good s.args.words.now) l.loop.row l.loop.invariant.2 (sym g.ensures.0 ∙ yes-good),
---       g.ensures.1 yes-good,
---     )
+pub loop-row-preserved : goal.loop-row-preserved
+loop-row-preserved c =
+    let n = c.row_count-rows.ensures.0 in
+    let t = c.loop-row-test.true in
+    let g = c.list_good in
+    let yes-good = c.if-not-list_good.false in (
+      omega arith,
+      g.auto.tally ∙ c.loop-row.invariant.1,
+      all_more (list_good c.args.words.now) c.loop-row.row c.loop-row.invariant.2 (sym g.ensures.value ∙ yes-good),
+      g.ensures.tallied yes-good,
+    )
 
 pub shape_of-tally : goal.shape_of-tally
 shape_of-tally c = c.loop-row.invariant.1
