@@ -18,34 +18,34 @@ unfolding fields_of sum_of
 loop-k-init c = (omega arith, refl, refl)
 
 -- how many widths there are
-counted : (c : goal.After-width-1) → length c.args.t2.widths ≡ most
+counted : (c : goal.After-width-1) → length c.args.layout.widths ≡ most
 counted c = search rules
 
 pub number_at-requires : goal.number_at-requires
 unfolding head_size
 number_at-requires c =
-    let ws = c.args.t2.widths in
+    let ws = c.args.layout.widths in
     let f = counted c in
     let m = sum_more ws c.loop-k.k (omega arith) in
     let t = sum_take_le ws (c.loop-k.k + 1) in
-    let h : 2 * (1 + sum_of ws) ≤ length c.args.line.now = frame_head c.args.t2 c.args.line.now c.requires.0 in
-    (frame_well_formed c.args.t2 c.args.line.now c.requires.0, narrow_at ws c.requires.1 c.loop-k.k, omega arith)
+    let h : 2 * (1 + sum_of ws) ≤ length c.args.line.now = frame_head c.args.layout c.args.line.now c.requires.0 in
+    (frame_well_formed c.args.layout c.args.line.now c.requires.0, narrow_at ws c.requires.1 c.loop-k.k, omega arith)
 
 pub overflow_add-at : goal.overflow_add-at
 unfolding head_size
 overflow_add-at c =
-    let w = narrow_at c.args.t2.widths c.requires.1 c.loop-k.k in
-    let t = sum_take_le c.args.t2.widths c.loop-k.k in
-    let h : 2 * (1 + sum_of c.args.t2.widths) ≤ length c.args.line.now = frame_head c.args.t2 c.args.line.now c.requires.0 in
+    let w = narrow_at c.args.layout.widths c.requires.1 c.loop-k.k in
+    let t = sum_take_le c.args.layout.widths c.loop-k.k in
+    let h : 2 * (1 + sum_of c.args.layout.widths) ≤ length c.args.line.now = frame_head c.args.layout c.args.line.now c.requires.0 in
     omega arith
 
 -- `counted`, at another place
-counted-2 : (c : goal.After-number_at) → length c.args.t2.widths ≡ most
+counted-2 : (c : goal.After-number_at) → length c.args.layout.widths ≡ most
 counted-2 c = search rules
 
 pub loop-k-preserved : goal.loop-k-preserved
 loop-k-preserved c =
-    let ws = c.args.t2.widths in
+    let ws = c.args.layout.widths in
     let k = c.loop-k.k in
     let f = counted-2 c in
     let h : k < length ws = omega arith in
@@ -61,7 +61,7 @@ loop-k-preserved c =
 pub returns : goal.returns
 unfolding fields_in
 returns c =
-    let ws = c.args.t2.widths in
+    let ws = c.args.layout.widths in
     let t : List ℕ = drop 1 (bytes_of c.args.line.now) in
     let f : length ws ≡ most = search rules in
     let e : c.loop-k.k ≡ length ws = omega arith in

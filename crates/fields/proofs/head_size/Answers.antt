@@ -18,9 +18,9 @@ unfolding sum_of
 loop-k-init c = (omega arith, refl, omega arith)
 
 -- a width is a byte
-below : (c : goal.After-n-1) → get_or c.args.t1.widths c.loop-k.k 0 < 256
+below : (c : goal.After-n-1) → get_or c.args.layout.widths c.loop-k.k 0 < 256
 below c =
-    let h : Fits w8 (get_or c.args.t1.widths c.loop-k.k 0) = search rules in
+    let h : Fits w8 (get_or c.args.layout.widths c.loop-k.k 0) = search rules in
     h.fits
 
 pub overflow_add-n : goal.overflow_add-n
@@ -28,7 +28,7 @@ overflow_add-n c = let h = below c in omega arith
 
 pub loop-k-preserved : goal.loop-k-preserved
 loop-k-preserved c =
-    let w = c.args.t1.widths in
+    let w = c.args.layout.widths in
     let n : length w ≡ most = search rules in
     let m = sum_more w c.loop-k.k (omega arith) in
     let h = below c in
@@ -37,7 +37,7 @@ loop-k-preserved c =
 pub returns : goal.returns
 unfolding head_size
 returns c =
-    let w = c.args.t1.widths in
+    let w = c.args.layout.widths in
     let n : length w ≡ most = search rules in
     let e : c.loop-k.k ≡ length w = omega arith in
     (rw (e, take-length w) at c.loop-k.invariant.1, omega arith)

@@ -13,7 +13,7 @@ pub returns-then-room-n : goal.returns-then-room-n
 returns-then-room-n c =
     let both =
     pairs_refused _ _ c.sort.ensures _ _ c.count_pairs-n.ensures _
-    (c.shorter-room.ensures.2 ∙ ap₂ min c.shorter.ensures.2 c.shorter-2.ensures.2) c.if-room-n.true in record { value = both.0; counts_after = both.1; entries_after = both.2 }
+    (c.shorter-room.ensures.2 ∙ ap₂ min c.shorter.ensures.2 c.shorter-2.ensures.2) c.if-room-n.true in record { value = both.0; counts_after = both.1.0; entries_after = both.1.1 }
 
 pub put_pairs-requires : goal.put_pairs-requires
 put_pairs-requires c =
@@ -34,4 +34,4 @@ returns c =
     let both =
     pairs_written _ _ c.sort.ensures _ _ c.count_pairs-n.ensures _
     (c.shorter-room.ensures.2 ∙ ap₂ min c.shorter.ensures.2 c.shorter-2.ensures.2) _ (omega (arith, c.if-room-n.false))
-    c.put_pairs.ensures in record { value = both.0; counts_after = both.1; entries_after = both.2 }
+    c.put_pairs.ensures in record { value = both.0; counts_after = both.1.0; entries_after = both.1.1 }
