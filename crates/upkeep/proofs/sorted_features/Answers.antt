@@ -4,7 +4,6 @@ use mathlib.Core.Bool.{true}
 use mathlib.Core.List.{List, ◌++◌}
 use Prim.Native.Nat.{ℕ, ◌-◌, ◌^◌, ◌≤◌, ◌<◌}
 use native.Mathlib.Omega.{arith}
-use borrow.Author.Rules.{rules}
 use lib.ListN.{length, get_or, take, drop, replicate, length-append, length-drop, length-replicate, get_or-append}
 use lib.Seq.{take-append_seam, take_at, length-take-le}
 use Rattle.laws.specs.Lists.{member}
@@ -15,10 +14,7 @@ use Rattle.names.specs.Features.{characters, most_features, features_of}
 use Rattle.names.specs.Set.{filled}
 use Rattle.names.specs.declared.FeatureSet.{FeatureSet}
 use Rattle.names.proofs.Laws.{size_most, feature_fits}
-use Rattle.upkeep.proofs.sorted_features.Statement.{statement}
-use Rattle.upkeep.proofs.sorted_features.Tie as tie
-
--- ---- the items of the set of a name's features
+use Rattle.upkeep.proofs.sorted_features.Goals as goal
 
 module _ {s : FeatureSet} (name : List ℕ) (e : s ≡ filled (features_of name)) where
   size : s.len ≡ length (features_of name)
@@ -79,94 +75,76 @@ module _ {s : FeatureSet} (name : List ℕ) (e : s ≡ filled (features_of name)
         let w : v ≡ t = c ∙ take_at t (drop s.len s.items) (length (take s.len out)) (as_many ∙ sym (cut out n)) in
         take_at v rest s.len (ap length w ∙ as_many) ∙ w ∙ ordered
 
--- ---- the needs
+abbrev name_at : goal.After-items-1 → List ℕ
+name_at c = c.args.name.now
 
-abbrev name_at : tie.After-features-good → List ℕ
-name_at c = c.before.before.before.args.name.now
-
-features-good-requires : tie.Need-features-good-requires
-features-good-requires c κs = search rules
-
-array-borrow-prefix-items : tie.Need-array-borrow-prefix-items
-array-borrow-prefix-items c =
-    let g = c.before in
-    let a = all (name_at g) g.features_good.ensures in
-    let b = within (name_at g) g.features_good.ensures in
+pub slice_bounds-items-end : goal.slice_bounds-items-end
+slice_bounds-items-end c =
+    let a = all (name_at c) c.features_good-set.ensures in
+    let b = within (name_at c) c.features_good-set.ensures in
     omega arith
 
-slice-aggregate-sort : tie.Need-slice-aggregate-sort
-slice-aggregate-sort c =
-    let g = c.before.before in
-    let e = g.features_good.ensures in
-    sym (cut (name_at g) e g.features_good.result.items (all (name_at g) e))
+-- `name_at`, at another place
+abbrev name_at-2 : goal.After-items-2-1 → List ℕ
+name_at-2 c = c.args.name.now
 
-array-borrow-prefix-spare : tie.Need-array-borrow-prefix-spare
-array-borrow-prefix-spare c = let g = c.before.before in within (name_at g) g.features_good.ensures
+pub slice_bounds-sort-end : goal.slice_bounds-sort-end
+slice_bounds-sort-end c =
+    let e = c.features_good-set.ensures in
+    sym (cut (name_at-2 c) e c.features_good-set.result.items (all (name_at-2 c) e))
 
-slice-aggregate-sort-2 : tie.Need-slice-aggregate-sort-2
-slice-aggregate-sort-2 c = let g = c.before.before.before in sym (cut (name_at g) g.features_good.ensures (replicate most_features 0) refl)
+pub slice_bounds-spare-end : goal.slice_bounds-spare-end
+slice_bounds-spare-end c = within (name_at-2 c) c.features_good-set.ensures
 
-sort-requires : tie.Need-sort-requires
-sort-requires c κs =
-    let g = c.before.before.before in
-    let e = g.features_good.ensures in
-    cut (name_at g) e (replicate most_features 0) refl ∙ sym (cut (name_at g) e g.features_good.result.items (all (name_at g) e))
+-- `name_at`, at another place
+abbrev name_at-3 : goal.After-spare-1 → List ℕ
+name_at-3 c = c.args.name.now
 
-slice-aggregate-narrow : tie.Need-slice-aggregate-narrow
-slice-aggregate-narrow c =
-    let s = c.before.before.before in
-    let g = s.before.before.before.before in
-    sym (still-all (name_at g) g.features_good.ensures s.sort.ensures)
+pub slice_bounds-sort-end-2 : goal.slice_bounds-sort-end-2
+slice_bounds-sort-end-2 c = sym (cut (name_at-3 c) c.features_good-set.ensures (replicate most_features 0) refl)
 
-slice-relend-prefix-narrow : tie.Need-slice-relend-prefix-narrow
-slice-relend-prefix-narrow c =
-    let g = c.before.before.before.before.before.before.before in
-    let n = g.before.before.before.requires.1 in
-    let w = within (name_at g) g.features_good.ensures in
+pub sort-requires : goal.sort-requires
+sort-requires c =
+    let e = c.features_good-set.ensures in
+    cut (name_at-3 c) e (replicate most_features 0) refl ∙ sym (cut (name_at-3 c) e c.features_good-set.result.items (all (name_at-3 c) e))
+
+-- `name_at`, at another place
+abbrev name_at-4 : goal.After-items-4-1 → List ℕ
+name_at-4 c = c.args.name.now
+
+pub slice_bounds-narrow-end : goal.slice_bounds-narrow-end
+slice_bounds-narrow-end c =
+    sym (still-all (name_at-4 c) c.features_good-set.ensures c.sort.ensures)
+
+pub slice_bounds-narrow-end-2 : goal.slice_bounds-narrow-end-2
+slice_bounds-narrow-end-2 c =
+    let n = c.requires.1 in
+    let w = within (name_at-4 c) c.features_good-set.ensures in
     omega arith
 
-slice-aggregate-narrow-2 : tie.Need-slice-aggregate-narrow-2
-slice-aggregate-narrow-2 c =
-    let g = c.before.before.before.before.before.before.before.before in
-    sym (cut (name_at g) g.features_good.ensures g.before.before.before.args.out.now g.before.before.before.requires.1)
+-- `name_at`, at another place
+abbrev name_at-5 : goal.After-narrow-arg-1 → List ℕ
+name_at-5 c = c.args.name.now
 
-narrow-requires : tie.Need-narrow-requires
-narrow-requires c κs =
-    let s = c.before.before.before.before in
-    let g = s.before.before.before.before in
-    let e = g.features_good.ensures in
-    let n = cut (name_at g) e g.before.before.before.args.out.now g.before.before.before.requires.1 in
-    let a = still-all (name_at g) e s.sort.ensures in
-    let w = within (name_at g) e in (
+pub slice_bounds-narrow-end-3 : goal.slice_bounds-narrow-end-3
+slice_bounds-narrow-end-3 c =
+    sym (cut (name_at-5 c) c.features_good-set.ensures c.args.out.now c.requires.1)
+
+pub narrow-requires : goal.narrow-requires
+narrow-requires c =
+    let e = c.features_good-set.ensures in
+    let n = cut (name_at-5 c) e c.args.out.now c.requires.1 in
+    let a = still-all (name_at-5 c) e c.sort.ensures in
+    let w = within (name_at-5 c) e in (
       omega arith,
-      λ i h. fits (name_at g) e s.sort.ensures (λ j. (let q = g.before.before.shared-slice-known.given j in omega arith)) i (omega arith),
+      λ i h. fits (name_at-5 c) e c.sort.ensures (λ j. (let q = c.type_inv.name j in omega arith)) i (omega arith),
     )
 
-same_length : tie.Need-same-length
-same_length c = search rules
+-- `name_at`, at another place
+abbrev name_at-6 : goal.After-slice_known-2-1 → List ℕ
+name_at-6 c = c.args.name.now
 
-returns : tie.Need-returns
+pub returns : goal.returns
 returns c =
-    let n = c.before.before in
-    let s = n.before.before.before.before.before in
-    let g = s.before.before.before.before in
-    let a = g.before.before.before in
-    let e = g.features_good.ensures in
-    (size (name_at g) e, copied (name_at g) e s.sort.ensures a.args.out.now n.narrow.new.1.0 (drop g.features_good.result.len a.args.out.now) a.requires.1 n.narrow.ensures)
-
-pub sorted-features-spec : {M : Type 1} → statement M
-sorted-features-spec =
-    tie.close
-    (tie.spec
-    features-good-requires
-    array-borrow-prefix-items
-    slice-aggregate-sort
-    array-borrow-prefix-spare
-    slice-aggregate-sort-2
-    sort-requires
-    slice-aggregate-narrow
-    slice-relend-prefix-narrow
-    slice-aggregate-narrow-2
-    narrow-requires
-    same_length
-    returns)
+    let e = c.features_good-set.ensures in
+    (size (name_at-6 c) e, copied (name_at-6 c) e c.sort.ensures c.args.out.now c.narrow.new.out (drop c.features_good-set.result.len c.args.out.now) c.requires.1 c.narrow.ensures)
