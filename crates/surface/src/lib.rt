@@ -1,5 +1,5 @@
-// The functions for C, Rust and Python: include/rushgirdle.h declares them. Each passes on what a layer answers, in a flat struct, and its
-// contract cites that layer's own definitions. A slice crosses as a pointer and a length. Nothing is required of a caller beyond that.
+// The functions for C, Rust and Python: include/rushgirdle.h declares them, and `surface_c` exports them. Each passes on what a layer answers, in a flat
+// struct, and its contract cites that layer's own definitions. A slice crosses as a pointer and a length. Nothing is required of a caller beyond that.
 #![tactic(auto)]
 
 ghost use Rattle.std.specs.Prelude.{◌≡◌, [], ◌∷◌, length};
@@ -130,8 +130,7 @@ pub struct LogAnswer {
 // ---- the index
 
 // Builds the index of a register in the words.
-#[unsafe(no_mangle)]
-pub extern "C" fn rushgirdle_build(register: &[u8], words: &mut [u32]) -> BuildAnswer
+pub fn rushgirdle_build(register: &[u8], words: &mut [u32]) -> BuildAnswer
     ensures value { result ≡ build_answer (built_of register.now (length words.old)) }
     ensures words_after { words.new ≡ words_after register.now words.old }
 {
@@ -143,8 +142,7 @@ pub extern "C" fn rushgirdle_build(register: &[u8], words: &mut [u32]) -> BuildA
 }
 
 // Adds a name under an id.
-#[unsafe(no_mangle)]
-pub extern "C" fn rushgirdle_add(words: &mut [u32], id: u16, name: &[u8]) -> u8
+pub fn rushgirdle_add(words: &mut [u32], id: u16, name: &[u8]) -> u8
     ensures value { result ≡ added_of words.old id name.now }
     ensures words_after { words.new ≡ words_added words.old id name.now }
 {
@@ -152,8 +150,7 @@ pub extern "C" fn rushgirdle_add(words: &mut [u32], id: u16, name: &[u8]) -> u8
 }
 
 // Withdraws an id.
-#[unsafe(no_mangle)]
-pub extern "C" fn rushgirdle_withdraw(words: &mut [u32], id: u16) -> u8
+pub fn rushgirdle_withdraw(words: &mut [u32], id: u16) -> u8
     ensures value { result ≡ withdrawn_of words.old id }
     ensures words_after { words.new ≡ words_withdrawn words.old id }
 {
@@ -161,16 +158,14 @@ pub extern "C" fn rushgirdle_withdraw(words: &mut [u32], id: u16) -> u8
 }
 
 // Whether the words are a good index.
-#[unsafe(no_mangle)]
-pub extern "C" fn rushgirdle_good(words: &[u32]) -> bool
+pub fn rushgirdle_good(words: &[u32]) -> bool
     ensures { result ≡ good_of words.now }
 {
     index::good(words)
 }
 
 // Where the list of a size and a feature lies among the words: its first word and how many; 0 and 0 where no row exists or the index isn't good.
-#[unsafe(no_mangle)]
-pub extern "C" fn rushgirdle_list(words: &[u32], size: u32, feature: u64) -> ListAnswer
+pub fn rushgirdle_list(words: &[u32], size: u32, feature: u64) -> ListAnswer
     ensures { result ≡ list_answer (span_for words.now size feature) }
 {
     if !index::good(words) {
@@ -211,8 +206,7 @@ fn flat(answer: Answer) -> SearchAnswer
 }
 
 // The counted search. Row k of an answer is place k of each of the four columns.
-#[unsafe(no_mangle)]
-pub extern "C" fn rushgirdle_search(
+pub fn rushgirdle_search(
     query: &[u8],
     measure: u8,
     p: u16,
@@ -233,8 +227,7 @@ pub extern "C" fn rushgirdle_search(
 }
 
 // The counted search, its answers written as records.
-#[unsafe(no_mangle)]
-pub extern "C" fn rushgirdle_search_rows(
+pub fn rushgirdle_search_rows(
     query: &[u8],
     measure: u8,
     p: u16,
@@ -250,8 +243,7 @@ pub extern "C" fn rushgirdle_search_rows(
 
 // Many queries at once: query k goes from the end before it to its own. Outcome k is place k of the columns of numbers, ends of rows and touches; the rows
 // of all stand one after the other in the other four.
-#[unsafe(no_mangle)]
-pub extern "C" fn rushgirdle_search_many(
+pub fn rushgirdle_search_many(
     bytes: &[u8],
     ends: &[u32],
     measure: u8,
@@ -285,8 +277,7 @@ pub extern "C" fn rushgirdle_search_many(
 // ---- the import
 
 // Imports a log. Outcome k is place k of the columns of cases and values, pair k place k of the other four.
-#[unsafe(no_mangle)]
-pub extern "C" fn rushgirdle_import(
+pub fn rushgirdle_import(
     log: &[u8],
     measure: u8,
     p: u16,
@@ -318,8 +309,7 @@ pub extern "C" fn rushgirdle_import(
 // ---- the frames
 
 // Reads a 4E line, and puts the name at the start of the buffer.
-#[unsafe(no_mangle)]
-pub extern "C" fn rushgirdle_read_name(line: &[u8], name: &mut [u8]) -> NameAnswer
+pub fn rushgirdle_read_name(line: &[u8], name: &mut [u8]) -> NameAnswer
     ensures value { result ≡ name_answer (read_of name_frame line.now (length name.old)) }
     ensures name_after { name.new ≡ buffer_of name_frame line.now name.old }
 {
@@ -332,8 +322,7 @@ pub extern "C" fn rushgirdle_read_name(line: &[u8], name: &mut [u8]) -> NameAnsw
 }
 
 // Reads a 51 line, and puts the query at the start of the buffer.
-#[unsafe(no_mangle)]
-pub extern "C" fn rushgirdle_read_query(line: &[u8], query: &mut [u8]) -> QueryAnswer
+pub fn rushgirdle_read_query(line: &[u8], query: &mut [u8]) -> QueryAnswer
     ensures value { result ≡ query_answer (read_of query_frame line.now (length query.old)) }
     ensures query_after { query.new ≡ buffer_of query_frame line.now query.old }
 {
@@ -350,8 +339,7 @@ pub extern "C" fn rushgirdle_read_query(line: &[u8], query: &mut [u8]) -> QueryA
 }
 
 // Reads a 52 line.
-#[unsafe(no_mangle)]
-pub extern "C" fn rushgirdle_read_row(line: &[u8]) -> RowAnswer
+pub fn rushgirdle_read_row(line: &[u8]) -> RowAnswer
     ensures { result ≡ row_answer (read_of row_frame line.now 0) }
 {
     let r = frames::read_row(line);
@@ -379,8 +367,7 @@ pub extern "C" fn rushgirdle_read_row(line: &[u8]) -> RowAnswer
 }
 
 // Reads a 45 line.
-#[unsafe(no_mangle)]
-pub extern "C" fn rushgirdle_read_end(line: &[u8]) -> EndAnswer
+pub fn rushgirdle_read_end(line: &[u8]) -> EndAnswer
     ensures { result ≡ end_answer (read_of end_frame line.now 0) }
 {
     let r = frames::read_end(line);
@@ -408,8 +395,7 @@ pub extern "C" fn rushgirdle_read_end(line: &[u8]) -> EndAnswer
 }
 
 // Reads a 58 line.
-#[unsafe(no_mangle)]
-pub extern "C" fn rushgirdle_read_refusal(line: &[u8]) -> RefusalAnswer
+pub fn rushgirdle_read_refusal(line: &[u8]) -> RefusalAnswer
     ensures { result ≡ refusal_answer (read_of refusal_frame line.now 0) }
 {
     let r = frames::read_refusal(line);
@@ -428,8 +414,7 @@ pub extern "C" fn rushgirdle_read_refusal(line: &[u8]) -> RefusalAnswer
 }
 
 // Reads a 4C line, and puts the typed name at the start of the buffer.
-#[unsafe(no_mangle)]
-pub extern "C" fn rushgirdle_read_log(line: &[u8], name: &mut [u8]) -> LogAnswer
+pub fn rushgirdle_read_log(line: &[u8], name: &mut [u8]) -> LogAnswer
     ensures value { result ≡ log_answer (read_of log_frame line.now (length name.old)) }
     ensures name_after { name.new ≡ buffer_of log_frame line.now name.old }
 {
@@ -443,8 +428,7 @@ pub extern "C" fn rushgirdle_read_log(line: &[u8], name: &mut [u8]) -> LogAnswer
 }
 
 // Writes a 4E line.
-#[unsafe(no_mangle)]
-pub extern "C" fn rushgirdle_write_name(out: &mut [u8], id: u16, name: &[u8]) -> WriteAnswer
+pub fn rushgirdle_write_name(out: &mut [u8], id: u16, name: &[u8]) -> WriteAnswer
     ensures value { result ≡ write_answer (written_of name_frame (id ∷ []) name.now (length out.old)) }
     ensures out_after { out.new ≡ out_of name_frame (id ∷ []) name.now out.old }
 {
@@ -456,8 +440,7 @@ pub extern "C" fn rushgirdle_write_name(out: &mut [u8], id: u16, name: &[u8]) ->
 }
 
 // Writes a 51 line.
-#[unsafe(no_mangle)]
-pub extern "C" fn rushgirdle_write_query(
+pub fn rushgirdle_write_query(
     out: &mut [u8],
     measure: u8,
     p: u16,
@@ -476,14 +459,7 @@ pub extern "C" fn rushgirdle_write_query(
 }
 
 // Writes a 52 line.
-#[unsafe(no_mangle)]
-pub extern "C" fn rushgirdle_write_row(
-    out: &mut [u8],
-    id: u16,
-    shared: u8,
-    size: u8,
-    least: u8,
-) -> WriteAnswer
+pub fn rushgirdle_write_row(out: &mut [u8], id: u16, shared: u8, size: u8, least: u8) -> WriteAnswer
     ensures value { result ≡ write_answer (written_of row_frame (id ∷ shared ∷ size ∷ least ∷ []) [] (length out.old)) }
     ensures out_after { out.new ≡ out_of row_frame (id ∷ shared ∷ size ∷ least ∷ []) [] out.old }
 {
@@ -495,14 +471,7 @@ pub extern "C" fn rushgirdle_write_row(
 }
 
 // Writes a 45 line.
-#[unsafe(no_mangle)]
-pub extern "C" fn rushgirdle_write_end(
-    out: &mut [u8],
-    rows: u16,
-    touches: u32,
-    p: u16,
-    q: u16,
-) -> WriteAnswer
+pub fn rushgirdle_write_end(out: &mut [u8], rows: u16, touches: u32, p: u16, q: u16) -> WriteAnswer
     ensures value { result ≡ write_answer (written_of end_frame (rows ∷ touches ∷ p ∷ q ∷ []) [] (length out.old)) }
     ensures out_after { out.new ≡ out_of end_frame (rows ∷ touches ∷ p ∷ q ∷ []) [] out.old }
 {
@@ -514,8 +483,7 @@ pub extern "C" fn rushgirdle_write_end(
 }
 
 // Writes a 58 line.
-#[unsafe(no_mangle)]
-pub extern "C" fn rushgirdle_write_refusal(out: &mut [u8], number: u8, touches: u32) -> WriteAnswer
+pub fn rushgirdle_write_refusal(out: &mut [u8], number: u8, touches: u32) -> WriteAnswer
     ensures value { result ≡ write_answer (written_of refusal_frame (number ∷ touches ∷ []) [] (length out.old)) }
     ensures out_after { out.new ≡ out_of refusal_frame (number ∷ touches ∷ []) [] out.old }
 {
@@ -527,13 +495,7 @@ pub extern "C" fn rushgirdle_write_refusal(out: &mut [u8], number: u8, touches: 
 }
 
 // Writes a 4C line.
-#[unsafe(no_mangle)]
-pub extern "C" fn rushgirdle_write_log(
-    out: &mut [u8],
-    day: u16,
-    reading: u16,
-    name: &[u8],
-) -> WriteAnswer
+pub fn rushgirdle_write_log(out: &mut [u8], day: u16, reading: u16, name: &[u8]) -> WriteAnswer
     ensures value { result ≡ write_answer (written_of log_frame (day ∷ reading ∷ []) name.now (length out.old)) }
     ensures out_after { out.new ≡ out_of log_frame (day ∷ reading ∷ []) name.now out.old }
 {
