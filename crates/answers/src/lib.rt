@@ -27,7 +27,7 @@ pub const LONGEST_ANSWER: usize = frames::ROW_LENGTH * ROWS_LENT + frames::END_L
 // ---- opening: an input to its index
 
 // What opening answers: a number, the first bad line of the register, from 1, or 0, and where the queries begin.
-#[derive(Drop)]
+#[derive(Clone, Copy)]
 pub struct Opened {
     pub number: u8,
     pub line: u32,
@@ -275,7 +275,7 @@ pub fn answer(line: &[u8], words: &[u32], out: &mut [u8]) -> Written
 }
 
 // What a line of an input came to: as writing answers, and where the next line starts.
-#[derive(Drop)]
+#[derive(Clone, Copy)]
 pub struct Response {
     pub number: u8,
     pub len: usize,

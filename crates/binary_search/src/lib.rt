@@ -67,7 +67,7 @@ pub fn place_in_column(words: &[u32], first: usize, width: usize, n: usize, x: u
 
 // Where a number stands in an ascending list: at that place where it is there, and otherwise before the one at that place, or behind all. Either way so
 // many are below it.
-#[derive(Drop)]
+#[derive(Clone, Copy)]
 pub enum Seat {
     At(usize),
     Before(usize),

@@ -37,7 +37,7 @@ fn tally(ids: &[u32], list: &[u32], counts: &mut [u32], met: &mut [usize], alrea
 }
 
 // What a test of a candidate answers: its count after it, and where in the list the next candidate's id may stand.
-#[derive(Drop)]
+#[derive(Clone, Copy)]
 struct Tested {
     count: u32,
     next: usize,
@@ -108,7 +108,7 @@ fn list_in<'a>(words: &'a [u32], keys: &[u64], starts: &[usize], k: usize) -> &'
 // ---- the two phases of a size
 
 // What a phase has come to: past the budget, or so many touches and so many met.
-#[derive(Drop)]
+#[derive(Clone, Copy)]
 struct Walk {
     past: bool,
     touches: usize,
@@ -210,7 +210,7 @@ fn keep(counts: &mut [u32], met: &[usize], m: usize, answers: &mut [u32])
 }
 
 // What a size has come to: past the budget, or so many touches.
-#[derive(Drop)]
+#[derive(Clone, Copy)]
 pub struct Spent {
     pub past: bool,
     pub touches: usize,

@@ -10,7 +10,7 @@ ghost use Rattle.fields.specs.Layouts.{head_size, narrow, field_bytes, name_byte
 pub const LONGEST_NAME: usize = 255;
 
 // A layout: the kind, the widths of the fields in bytes, and whether a name follows. A width of 0 is no field.
-#[derive(Drop)]
+#[derive(Clone, Copy)]
 pub struct Layout {
     pub kind: u8,
     pub widths: [u8; Layout::FIELDS],
@@ -23,7 +23,7 @@ impl Layout {
 }
 
 // A reading of a frame: its number, its fields and the length of its name.
-#[derive(Drop)]
+#[derive(Clone, Copy)]
 pub struct Reading {
     pub number: u8,
     pub fields: [u32; Layout::FIELDS],
@@ -31,7 +31,7 @@ pub struct Reading {
 }
 
 // What writing answers: its number, and how many bytes were written.
-#[derive(Drop)]
+#[derive(Clone, Copy)]
 pub struct Written {
     pub number: u8,
     pub len: usize,

@@ -46,7 +46,7 @@ pub const END_LENGTH: usize = 23;
 pub const REFUSAL_LENGTH: usize = 13;
 
 // What reading a 4E line answers.
-#[derive(Drop)]
+#[derive(Clone, Copy)]
 pub struct NameRead {
     pub number: u8,
     pub id: u16,
@@ -54,7 +54,7 @@ pub struct NameRead {
 }
 
 // What reading a 51 line answers.
-#[derive(Drop)]
+#[derive(Clone, Copy)]
 pub struct QueryRead {
     pub number: u8,
     pub measure: u8,
@@ -65,7 +65,7 @@ pub struct QueryRead {
 }
 
 // What reading a 52 line answers.
-#[derive(Drop)]
+#[derive(Clone, Copy)]
 pub enum RowRead {
     Row {
         id: u16,
@@ -77,7 +77,7 @@ pub enum RowRead {
 }
 
 // What reading a 45 line answers.
-#[derive(Drop)]
+#[derive(Clone, Copy)]
 pub enum EndRead {
     End {
         rows: u16,
@@ -89,7 +89,7 @@ pub enum EndRead {
 }
 
 // What reading a 58 line answers.
-#[derive(Drop)]
+#[derive(Clone, Copy)]
 pub enum RefusalRead {
     Refusal { number: u8, touches: u32 },
     Malformed,

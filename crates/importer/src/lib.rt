@@ -20,7 +20,7 @@ pub const MOST_LINES: usize = 1024;
 // ---- what it takes and answers
 
 // What every search of an import is made with.
-#[derive(Drop)]
+#[derive(Clone, Copy)]
 pub struct Settings {
     pub measure: u8,
     pub p: u16,
@@ -29,7 +29,7 @@ pub struct Settings {
 }
 
 // The outcome of a line.
-#[derive(Drop)]
+#[derive(Clone, Copy)]
 pub enum Outcome {
     // the one name that its search lists
     Belongs { id: u32 },
@@ -42,7 +42,7 @@ pub enum Outcome {
 }
 
 // What an import answers: its number, the line that it is about, from 1, or 0, and how many outcomes and pairs were written.
-#[derive(Drop)]
+#[derive(Clone, Copy)]
 pub struct Imported {
     pub number: u8,
     pub line: u32,
@@ -65,7 +65,7 @@ fn judge_line(line: &[u8], count: usize) -> u8
 }
 
 // What the lines come to: the first that is refused, or how many there are.
-#[derive(Drop)]
+#[derive(Clone, Copy)]
 struct Judged {
     number: u8,
     line: u32,
@@ -146,7 +146,7 @@ fn outcome_of(good: bool, query: &[u8], s: Settings, words: &[u32]) -> Outcome
 }
 
 // A line that was read and searched.
-#[derive(Drop)]
+#[derive(Clone, Copy)]
 struct Heard {
     outcome: Outcome,
     day: u16,

@@ -15,7 +15,7 @@ ghost use Rattle.std.specs.Prelude.{◌≡◌, length};
 use libc::{STDIN_FILENO, STDOUT_FILENO};
 
 // What was read of a line: how many words are stored, the number being read, and whether it has a digit yet.
-#[derive(Drop)]
+#[derive(Clone, Copy)]
 struct Line {
     count: usize,
     value: u32,

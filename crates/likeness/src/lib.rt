@@ -9,7 +9,7 @@ ghost use Rattle.likeness.specs.Least.{least_count};
 ghost use Rattle.likeness.specs.Terms.{divisor_of, lowest_terms};
 
 // A threshold p / q.
-#[derive(Drop)]
+#[derive(Clone, Copy)]
 pub struct Threshold {
     pub p: u16,
     pub q: u16,

@@ -17,7 +17,7 @@ use libc::{STDIN_FILENO, STDOUT_FILENO};
 
 // What was read of a case: how many of its first two numbers, the size, the feature, how many words are stored, the number being read, and whether
 // it has a digit yet.
-#[derive(Drop)]
+#[derive(Clone, Copy)]
 struct Case {
     heads: usize,
     size: u32,

@@ -15,7 +15,7 @@ use binary_search::Seat;
 // ---- the rows of one size
 
 // Where a list lies among the words.
-#[derive(Drop)]
+#[derive(Clone, Copy)]
 pub struct Place {
     pub start: usize,
     pub count: usize,

@@ -48,7 +48,7 @@ pub const IMPORT_END_LENGTH: usize = 11;
 pub const IMPORT_REFUSAL_LENGTH: usize = 11;
 
 // What reading a 4C line answers.
-#[derive(Drop)]
+#[derive(Clone, Copy)]
 pub struct LogRead {
     pub number: u8,
     pub day: u16,
@@ -57,14 +57,14 @@ pub struct LogRead {
 }
 
 // What reading a 4F line answers.
-#[derive(Drop)]
+#[derive(Clone, Copy)]
 pub enum OutcomeRead {
     Outcome { case: u8, value: u16 },
     Malformed,
 }
 
 // What reading a 50 line answers.
-#[derive(Drop)]
+#[derive(Clone, Copy)]
 pub enum PairRead {
     Pair {
         id: u16,
@@ -76,14 +76,14 @@ pub enum PairRead {
 }
 
 // What reading a 5A line answers.
-#[derive(Drop)]
+#[derive(Clone, Copy)]
 pub enum ImportEndRead {
     ImportEnd { outcomes: u16, pairs: u16 },
     Malformed,
 }
 
 // What reading a 59 line answers.
-#[derive(Drop)]
+#[derive(Clone, Copy)]
 pub enum ImportRefusalRead {
     ImportRefusal { part: u8, number: u8, line: u16 },
     Malformed,

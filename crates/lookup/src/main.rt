@@ -29,7 +29,7 @@ fn read_input(space: &mut [u8]) -> Input
 // ---- writing
 
 // What was handed over of the output: how many bytes, and whether every write took what it was given.
-#[derive(Drop)]
+#[derive(Clone, Copy)]
 struct Sent {
     bytes: usize,
     whole: bool,

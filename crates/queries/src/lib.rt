@@ -10,7 +10,7 @@ ghost use Rattle.queries.specs.Queries.{most, as_outcomes, outcomes_over, column
 use search::Answer;
 
 // What a call answers: 0 where every query has its outcome, 8 otherwise; how many have, and how many rows were written.
-#[derive(Drop)]
+#[derive(Clone, Copy)]
 pub struct Come {
     pub number: u8,
     pub queries: u32,
@@ -72,7 +72,7 @@ fn one(
 }
 
 // What an answer tells of a query.
-#[derive(Drop)]
+#[derive(Clone, Copy)]
 struct Told {
     number: u32,
     rows: usize,
@@ -99,7 +99,7 @@ fn tell(answer: Answer) -> Told
 // ---- all of them
 
 // How far it came: so many queries, with so many rows.
-#[derive(Drop)]
+#[derive(Clone, Copy)]
 struct Reached {
     queries: usize,
     rows: usize,

@@ -21,7 +21,7 @@ pub const MOST_WORDS: usize = words::HEAD_WIDTH
 const FEW_KEYS: usize = 8192;
 
 // What a build answers: its number, and the place of the first bad line, from 1, or 0.
-#[derive(Drop)]
+#[derive(Clone, Copy)]
 pub struct Built {
     pub number: u8,
     pub line: u32,
@@ -30,7 +30,7 @@ pub struct Built {
 // ---- one line
 
 // What judging a line answers: its number, and its id and the length of its name where that is 0.
-#[derive(Drop)]
+#[derive(Clone, Copy)]
 struct Judged {
     number: u8,
     id: u32,
@@ -98,7 +98,7 @@ fn add_name(name: &[u8], id: u32, names: &mut [u32], n: usize, keys: &mut [u64],
 // ---- all lines
 
 // What the lines come to: the first bad one, or how many names and postings there are.
-#[derive(Drop)]
+#[derive(Clone, Copy)]
 struct Taken {
     number: u8,
     line: u32,

@@ -11,7 +11,7 @@ ghost use Rattle.std.specs.Prelude.{◌≡◌, length};
 use libc::{STDIN_FILENO, STDOUT_FILENO};
 
 // What was read of a case: the slice's length, whether the register has begun, how many of its bytes are stored, and the first digit of an open pair.
-#[derive(Drop)]
+#[derive(Clone, Copy)]
 struct Case {
     length: usize,
     begun: bool,

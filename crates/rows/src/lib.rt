@@ -14,7 +14,7 @@ use search::Answer;
 // An answer row: a name's id, how many of the query's features it has, its size, and the least count of that size. Laid out as C has it, for the crate
 // `surface`.
 #[repr(C)]
-#[derive(Drop)]
+#[derive(Clone, Copy)]
 pub struct Row {
     pub id: u32,
     pub shared: u32,

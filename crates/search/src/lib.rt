@@ -17,7 +17,7 @@ ghost use Rattle.search.specs.Places.{places_in};
 use names::FeatureSet;
 
 // What a search answers. specs/Answers.antt sets out the number and the values of each case.
-#[derive(Drop)]
+#[derive(Clone, Copy)]
 pub enum Answer {
     Found {
         rows: u32,

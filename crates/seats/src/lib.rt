@@ -63,7 +63,7 @@ fn put_row(place: usize, size: u32, feature: u32, at: &mut [u32], values: &mut [
 }
 
 // Where the id goes among the postings for a feature, and how many places of new rows there are then.
-#[derive(Drop)]
+#[derive(Clone, Copy)]
 struct Seated {
     posting: usize,
     count: usize,

@@ -81,7 +81,7 @@ pub fn least_counts(words: &[u32], measure: u8, p: u16, q: u16, x: u8) -> [u32; 
 // ---- the lists of a size
 
 // Some rows of an index: those from one on and before another.
-#[derive(Drop)]
+#[derive(Clone, Copy)]
 struct Rows {
     from: usize,
     to: usize,

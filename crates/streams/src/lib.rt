@@ -15,7 +15,7 @@ fn interrupted() -> bool {
 }
 
 // What reading came to: how many bytes, and whether no read failed.
-#[derive(Drop)]
+#[derive(Clone, Copy)]
 pub struct Input {
     pub len: usize,
     pub whole: bool,

@@ -23,21 +23,21 @@ use search::Answer;
 // ---- the flat answers, each with its number first, and none above 16 bytes: so each is returned in two registers, on every processor alike
 
 #[repr(C)]
-#[derive(Drop)]
+#[derive(Clone, Copy)]
 pub struct BuildAnswer {
     pub number: u8,
     pub line: u32,
 }
 
 #[repr(C)]
-#[derive(Drop)]
+#[derive(Clone, Copy)]
 pub struct ListAnswer {
     pub start: usize,
     pub count: usize,
 }
 
 #[repr(C)]
-#[derive(Drop)]
+#[derive(Clone, Copy)]
 pub struct SearchAnswer {
     pub number: u8,
     pub rows: u32,
@@ -47,7 +47,7 @@ pub struct SearchAnswer {
 }
 
 #[repr(C)]
-#[derive(Drop)]
+#[derive(Clone, Copy)]
 pub struct ManyAnswer {
     pub number: u8,
     pub queries: u32,
@@ -55,7 +55,7 @@ pub struct ManyAnswer {
 }
 
 #[repr(C)]
-#[derive(Drop)]
+#[derive(Clone, Copy)]
 pub struct ImportAnswer {
     pub number: u8,
     pub line: u32,
@@ -64,14 +64,14 @@ pub struct ImportAnswer {
 }
 
 #[repr(C)]
-#[derive(Drop)]
+#[derive(Clone, Copy)]
 pub struct WriteAnswer {
     pub number: u8,
     pub len: usize,
 }
 
 #[repr(C)]
-#[derive(Drop)]
+#[derive(Clone, Copy)]
 pub struct NameAnswer {
     pub number: u8,
     pub id: u16,
@@ -79,7 +79,7 @@ pub struct NameAnswer {
 }
 
 #[repr(C)]
-#[derive(Drop)]
+#[derive(Clone, Copy)]
 pub struct QueryAnswer {
     pub number: u8,
     pub measure: u8,
@@ -90,7 +90,7 @@ pub struct QueryAnswer {
 }
 
 #[repr(C)]
-#[derive(Drop)]
+#[derive(Clone, Copy)]
 pub struct RowAnswer {
     pub number: u8,
     pub id: u16,
@@ -100,7 +100,7 @@ pub struct RowAnswer {
 }
 
 #[repr(C)]
-#[derive(Drop)]
+#[derive(Clone, Copy)]
 pub struct EndAnswer {
     pub number: u8,
     pub rows: u16,
@@ -111,7 +111,7 @@ pub struct EndAnswer {
 
 // The number of the reading, and the number that the frame says.
 #[repr(C)]
-#[derive(Drop)]
+#[derive(Clone, Copy)]
 pub struct RefusalAnswer {
     pub number: u8,
     pub refusal: u8,
@@ -119,7 +119,7 @@ pub struct RefusalAnswer {
 }
 
 #[repr(C)]
-#[derive(Drop)]
+#[derive(Clone, Copy)]
 pub struct LogAnswer {
     pub number: u8,
     pub day: u16,

@@ -27,7 +27,7 @@ fn put_places(place: usize, at: &mut [u32], n: usize)
 }
 
 // How many places of rows' words and how many places among the postings there are.
-#[derive(Drop)]
+#[derive(Clone, Copy)]
 pub struct Noted {
     pub rows: usize,
     pub postings: usize,

@@ -8,14 +8,14 @@ ghost use Rattle.weeks.specs.Pairs.{week_of, pair_of, entry_of, id_in, week_in, 
 ghost use Rattle.weeks.specs.Steps.{first_at, with_entry};
 
 // What writing pairs answers: its number, and how many there are.
-#[derive(Drop)]
+#[derive(Clone, Copy)]
 pub struct Paired {
     pub number: u8,
     pub pairs: u32,
 }
 
 // How many pairs there are so far, and the sum and count of the last of them.
-#[derive(Drop)]
+#[derive(Clone, Copy)]
 pub struct Tally {
     pub pairs: usize,
     pub sum: u32,
