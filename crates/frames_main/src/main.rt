@@ -5,41 +5,52 @@
 
 use fields::Written;
 use frames::{EndRead, NameRead, QueryRead, RefusalRead, RowRead};
+use std::io;
 
-fn text(s: &[u8]) {
-    io::write_all(1, s);
+fn text<P: Print>(rt: &P, s: &[u8]) -> io::Result<()> {
+    rt.write_all(s)
 }
 
 // A number, with a space before it.
-fn number(n: u64) {
-    text(b" ");
-    io::print_decimal(1, n);
+fn number<P: Print>(rt: &P, n: u64) -> io::Result<()> {
+    print!(rt; " {n}")
 }
 
 // What a writer answered, and what it left: the room that it was lent, and one byte beyond.
-fn written(w: Written, out: [u8; 640], room: usize) {
-    text(b" wrote");
-    number(w.number as u64);
-    number(w.len as u64);
-    text(b" ");
+fn written<P: Print>(rt: &P, w: Written, out: [u8; 640], room: usize) -> io::Result<()> {
+    text(rt, b" wrote")?;
+    number(rt, w.number as u64)?;
+    number(rt, w.len as u64)?;
+    text(rt, b" ")?;
     if room < 640 {
-        text(&out[0..room + 1]);
+        text(rt, &out[0..room + 1])?;
     }
-    text(b"\n");
+    text(rt, b"\n")
 }
 
-fn put_name(room: usize, r: NameRead, name: [u8; fields::LONGEST_NAME]) {
+fn put_name<P: Print>(
+    rt: &P,
+    room: usize,
+    r: NameRead,
+    name: [u8; fields::LONGEST_NAME],
+) -> io::Result<()> {
     let mut out = [46u8; 640];
     let len = r.len;
     if room <= 640 {
         if len <= fields::LONGEST_NAME {
             let w = frames::write_name(&mut out[0..room], r.id, &name[0..len]);
-            written(w, out, room);
+            written(rt, w, out, room)?;
         }
     }
+    Ok(())
 }
 
-fn put_query(room: usize, r: QueryRead, query: [u8; fields::LONGEST_NAME]) {
+fn put_query<P: Print>(
+    rt: &P,
+    room: usize,
+    r: QueryRead,
+    query: [u8; fields::LONGEST_NAME],
+) -> io::Result<()> {
     let mut out = [46u8; 640];
     let len = r.len;
     if room <= 640 {
@@ -52,98 +63,124 @@ fn put_query(room: usize, r: QueryRead, query: [u8; fields::LONGEST_NAME]) {
                 r.allowance,
                 &query[0..len],
             );
-            written(w, out, room);
+            written(rt, w, out, room)?;
         }
     }
+    Ok(())
 }
 
-fn put_row(room: usize, id: u16, shared: u8, size: u8, least: u8) {
+fn put_row<P: Print>(
+    rt: &P,
+    room: usize,
+    id: u16,
+    shared: u8,
+    size: u8,
+    least: u8,
+) -> io::Result<()> {
     let mut out = [46u8; 640];
     if room <= 640 {
         let w = frames::write_row(&mut out[0..room], id, shared, size, least);
-        written(w, out, room);
+        written(rt, w, out, room)?;
     }
+    Ok(())
 }
 
-fn put_end(room: usize, rows: u16, touches: u32, p: u16, q: u16) {
+fn put_end<P: Print>(
+    rt: &P,
+    room: usize,
+    rows: u16,
+    touches: u32,
+    p: u16,
+    q: u16,
+) -> io::Result<()> {
     let mut out = [46u8; 640];
     if room <= 640 {
         let w = frames::write_end(&mut out[0..room], rows, touches, p, q);
-        written(w, out, room);
+        written(rt, w, out, room)?;
     }
+    Ok(())
 }
 
-fn put_refusal(room: usize, no: u8, touches: u32) {
+fn put_refusal<P: Print>(rt: &P, room: usize, no: u8, touches: u32) -> io::Result<()> {
     let mut out = [46u8; 640];
     if room <= 640 {
         let w = frames::write_refusal(&mut out[0..room], no, touches);
-        written(w, out, room);
+        written(rt, w, out, room)?;
     }
+    Ok(())
 }
 
-fn four(a: u64, b: u64, c: u64, d: u64) {
-    number(a);
-    number(b);
-    number(c);
-    number(d);
+fn four<P: Print>(rt: &P, a: u64, b: u64, c: u64, d: u64) -> io::Result<()> {
+    number(rt, a)?;
+    number(rt, b)?;
+    number(rt, c)?;
+    number(rt, d)
 }
 
 // The buffer that a reader was lent, as it left it.
-fn buffer(len: usize, small: [u8; 8]) {
-    number(len as u64);
-    text(b" ");
-    text(&small);
-    text(b"\n");
+fn buffer<P: Print>(rt: &P, len: usize, small: [u8; 8]) -> io::Result<()> {
+    number(rt, len as u64)?;
+    text(rt, b" ")?;
+    text(rt, &small)?;
+    text(rt, b"\n")
 }
 
-fn show_name(r: NameRead, small: [u8; 8]) {
-    text(b"4E");
-    number(r.number as u64);
-    number(r.id as u64);
-    buffer(r.len, small);
+fn show_name<P: Print>(rt: &P, r: NameRead, small: [u8; 8]) -> io::Result<()> {
+    text(rt, b"4E")?;
+    number(rt, r.number as u64)?;
+    number(rt, r.id as u64)?;
+    buffer(rt, r.len, small)
 }
 
-fn show_query(r: QueryRead, small: [u8; 8]) {
-    text(b"51");
-    number(r.number as u64);
-    four(r.measure as u64, r.p as u64, r.q as u64, r.allowance as u64);
-    buffer(r.len, small);
+fn show_query<P: Print>(rt: &P, r: QueryRead, small: [u8; 8]) -> io::Result<()> {
+    text(rt, b"51")?;
+    number(rt, r.number as u64)?;
+    four(
+        rt,
+        r.measure as u64,
+        r.p as u64,
+        r.q as u64,
+        r.allowance as u64,
+    )?;
+    buffer(rt, r.len, small)
 }
 
 // A name is read into 8 bytes, and again into a buffer of the longest name for the writer, which is lent the line's length and then one byte less.
-fn name(line: &[u8]) {
+fn name<P: Print>(rt: &P, line: &[u8]) -> io::Result<()> {
     let mut small = [46u8; 8];
     let r = frames::read_name(line, &mut small);
-    show_name(r, small);
+    show_name(rt, r, small)?;
     let mut large = [46u8; fields::LONGEST_NAME];
     let s = frames::read_name(line, &mut large);
     let n = line.len();
     if s.number == 0 && 0 < n {
-        put_name(n, s, large);
-        put_name(n - 1, s, large);
+        put_name(rt, n, s, large)?;
+        put_name(rt, n - 1, s, large)?;
     }
+    Ok(())
 }
 
-fn query(line: &[u8]) {
+fn query<P: Print>(rt: &P, line: &[u8]) -> io::Result<()> {
     let mut small = [46u8; 8];
     let r = frames::read_query(line, &mut small);
-    show_query(r, small);
+    show_query(rt, r, small)?;
     let mut large = [46u8; fields::LONGEST_NAME];
     let s = frames::read_query(line, &mut large);
     let n = line.len();
     if s.number == 0 && 0 < n {
-        put_query(n, s, large);
-        put_query(n - 1, s, large);
+        put_query(rt, n, s, large)?;
+        put_query(rt, n - 1, s, large)?;
     }
+    Ok(())
 }
 
-fn malformed() {
-    number(11);
-    text(b"\n");
+fn malformed<P: Print>(rt: &P) -> io::Result<()> {
+    number(rt, 11)?;
+    text(rt, b"\n")
 }
 
-fn row(line: &[u8]) {
-    text(b"52");
+fn row<P: Print>(rt: &P, line: &[u8]) -> io::Result<()> {
+    text(rt, b"52")?;
     match frames::read_row(line) {
         RowRead::Row {
             id,
@@ -151,18 +188,19 @@ fn row(line: &[u8]) {
             size,
             least,
         } => {
-            number(0);
-            four(id as u64, shared as u64, size as u64, least as u64);
-            text(b"\n");
-            put_row(frames::ROW_LENGTH, id, shared, size, least);
-            put_row(frames::ROW_LENGTH - 1, id, shared, size, least);
+            number(rt, 0)?;
+            four(rt, id as u64, shared as u64, size as u64, least as u64)?;
+            text(rt, b"\n")?;
+            put_row(rt, frames::ROW_LENGTH, id, shared, size, least)?;
+            put_row(rt, frames::ROW_LENGTH - 1, id, shared, size, least)?;
         }
-        RowRead::Malformed => malformed(),
+        RowRead::Malformed => malformed(rt)?,
     }
+    Ok(())
 }
 
-fn end(line: &[u8]) {
-    text(b"45");
+fn end<P: Print>(rt: &P, line: &[u8]) -> io::Result<()> {
+    text(rt, b"45")?;
     match frames::read_end(line) {
         EndRead::End {
             rows,
@@ -170,80 +208,88 @@ fn end(line: &[u8]) {
             p,
             q,
         } => {
-            number(0);
-            four(rows as u64, touches as u64, p as u64, q as u64);
-            text(b"\n");
-            put_end(frames::END_LENGTH, rows, touches, p, q);
-            put_end(frames::END_LENGTH - 1, rows, touches, p, q);
+            number(rt, 0)?;
+            four(rt, rows as u64, touches as u64, p as u64, q as u64)?;
+            text(rt, b"\n")?;
+            put_end(rt, frames::END_LENGTH, rows, touches, p, q)?;
+            put_end(rt, frames::END_LENGTH - 1, rows, touches, p, q)?;
         }
-        EndRead::Malformed => malformed(),
+        EndRead::Malformed => malformed(rt)?,
     }
+    Ok(())
 }
 
-fn refusal(line: &[u8]) {
-    text(b"58");
+fn refusal<P: Print>(rt: &P, line: &[u8]) -> io::Result<()> {
+    text(rt, b"58")?;
     match frames::read_refusal(line) {
         RefusalRead::Refusal {
             number: no,
             touches,
         } => {
-            number(0);
-            number(no as u64);
-            number(touches as u64);
-            text(b"\n");
-            put_refusal(frames::REFUSAL_LENGTH, no, touches);
-            put_refusal(frames::REFUSAL_LENGTH - 1, no, touches);
+            number(rt, 0)?;
+            number(rt, no as u64)?;
+            number(rt, touches as u64)?;
+            text(rt, b"\n")?;
+            put_refusal(rt, frames::REFUSAL_LENGTH, no, touches)?;
+            put_refusal(rt, frames::REFUSAL_LENGTH - 1, no, touches)?;
         }
-        RefusalRead::Malformed => malformed(),
+        RefusalRead::Malformed => malformed(rt)?,
     }
+    Ok(())
 }
 
-fn all(line: &[u8]) {
-    name(line);
-    query(line);
-    row(line);
-    end(line);
-    refusal(line);
+fn all<P: Print>(rt: &P, line: &[u8]) -> io::Result<()> {
+    name(rt, line)?;
+    query(rt, line)?;
+    row(rt, line)?;
+    end(rt, line)?;
+    refusal(rt, line)
 }
 
 // Each line of the input, up to its bar.
-fn lines(input: &[u8]) {
+fn lines<P: Print>(rt: &P, input: &[u8]) -> io::Result<()> {
     let mut from = 0;
     let mut i = 0;
     while i < input.len() {
         if input[i] == b'|' {
-            all(&input[from..i]);
+            all(rt, &input[from..i])?;
             from = i + 1;
         }
         i += 1;
     }
+    Ok(())
 }
 
 // A name one byte too long is refused with 2, with room for its line and without.
-fn long_name(room: usize) {
+fn long_name<P: Print>(rt: &P, room: usize) -> io::Result<()> {
     let long = [65u8; fields::LONGEST_NAME + 1];
     let mut out = [46u8; 640];
     if room <= 640 {
         let w = frames::write_name(&mut out[0..room], 1, &long);
-        written(w, out, room);
+        written(rt, w, out, room)?;
     }
+    Ok(())
 }
 
-fn long_query(room: usize) {
+fn long_query<P: Print>(rt: &P, room: usize) -> io::Result<()> {
     let long = [65u8; fields::LONGEST_NAME + 1];
     let mut out = [46u8; 640];
     if room <= 640 {
         let w = frames::write_query(&mut out[0..room], 1, 2, 3, 4, &long);
-        written(w, out, room);
+        written(rt, w, out, room)?;
     }
+    Ok(())
 }
 
-fn main() {
-    let mut input = io::large_buffer();
-    let n = io::read_full(0, &mut input);
-    lines(&input[..n]);
-    long_name(600);
-    long_name(3);
-    long_query(600);
-    long_query(3);
+fn main(rt: HostRuntime) -> io::Result<()> {
+    let mut space = [0u8; 65536];
+    let input = streams::read_input(&mut rt.stdin(), &mut space);
+    if let Some(error) = input.failure {
+        return Err(error);
+    }
+    lines(&rt, &space[..input.len])?;
+    long_name(&rt, 600)?;
+    long_name(&rt, 3)?;
+    long_query(&rt, 600)?;
+    long_query(&rt, 3)
 }

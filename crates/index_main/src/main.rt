@@ -12,7 +12,7 @@
 
 ghost use Rattle.std.specs.Prelude.{◌≡◌, length};
 
-use libc::{STDIN_FILENO, STDOUT_FILENO};
+use std::io;
 
 // What was read of a line: how many words are stored, the number being read, and whether it has a digit yet.
 #[derive(Clone, Copy)]
@@ -60,44 +60,44 @@ fn closed(words: &mut [u32], line: Line) -> Line {
 }
 
 // Writes the verdict of the words of a line.
-fn verdict(words: &[u32], count: usize) {
+fn verdict<P: Print>(rt: &P, words: &[u32], count: usize) -> io::Result<()> {
     if count <= words.len() {
-        io::print_decimal(STDOUT_FILENO, index::good(&words[0..count]) as u64);
-        io::write_all(STDOUT_FILENO, b"\n");
+        println!(rt; "{}", index::good(&words[0..count]) as u64)?;
     }
+    Ok(())
 }
 
 // One byte of the input.
-fn step(words: &mut [u32], line: Line, b: u8) -> Line {
+fn step<P: Print>(rt: &P, words: &mut [u32], line: Line, b: u8) -> io::Result<Line> {
     if 48 <= b && b <= 57 {
-        return digit(line, b - 48);
+        return Ok(digit(line, b - 48));
     }
     let done = closed(words, line);
     if b == 10 {
-        verdict(words, done.count);
-        return Line {
+        verdict(rt, words, done.count)?;
+        return Ok(Line {
             count: 0,
             value: 0,
             open: false,
-        };
+        });
     }
-    done
+    Ok(done)
 }
 
 // The bytes of a chunk.
-fn chunk(words: &mut [u32], first: Line, bytes: &[u8]) -> Line {
+fn chunk<P: Print>(rt: &P, words: &mut [u32], first: Line, bytes: &[u8]) -> io::Result<Line> {
     let mut line = first;
     let mut i: usize = 0;
     while i < bytes.len() {
-        line = step(words, line, bytes[i]);
+        line = step(rt, words, line, bytes[i])?;
         i += 1;
     }
-    line
+    Ok(line)
 }
 
-fn main() {
+fn main(rt: HostRuntime) -> io::Result<()> {
     let mut words = room();
-    let mut bytes = io::large_buffer();
+    let mut bytes = [0u8; 65536];
     let mut line = Line {
         count: 0,
         value: 0,
@@ -105,11 +105,16 @@ fn main() {
     };
     let mut left: u64 = 1000000000;
     while 0 < left {
-        let got = io::read_full(STDIN_FILENO, &mut bytes);
-        line = chunk(&mut words, line, &bytes[0..got]);
+        let input = streams::read_input(&mut rt.stdin(), &mut bytes);
+        if let Some(error) = input.failure {
+            return Err(error);
+        }
+        let got = input.len;
+        line = chunk(&rt, &mut words, line, &bytes[0..got])?;
         if got < 65536 {
             break;
         }
         left -= 1;
     }
+    Ok(())
 }

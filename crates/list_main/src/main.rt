@@ -13,7 +13,7 @@
 ghost use Rattle.std.specs.Prelude.{◌≡◌, length};
 ghost use Rattle.lists.specs.Lists.{span_for};
 
-use libc::{STDIN_FILENO, STDOUT_FILENO};
+use std::io;
 
 // What was read of a case: how many of its first two numbers, the size, the feature, how many words are stored, the number being read, and whether
 // it has a digit yet.
@@ -88,17 +88,17 @@ fn closed(words: &mut [u32], case: Case) -> Case {
 }
 
 // A number, with a space before it.
-fn put(n: u64) {
-    io::write_all(STDOUT_FILENO, b" ");
-    io::print_decimal(STDOUT_FILENO, n);
+fn put<P: Print>(rt: &P, n: u64) -> io::Result<()> {
+    print!(rt; " {n}")
 }
 
-fn put_words(words: &[u32]) {
+fn put_words<P: Print>(rt: &P, words: &[u32]) -> io::Result<()> {
     let mut i = 0;
     while i < words.len() {
-        put(words[i] as u64);
+        put(rt, words[i] as u64)?;
         i += 1;
     }
+    Ok(())
 }
 
 // Where the list starts among the words; 0 where there is none.
@@ -113,57 +113,63 @@ fn start_of(words: &[u32], size: u32, feature: u64) -> usize
 }
 
 // Finds the list, and writes the answer.
-fn answer(words: &[u32], size: u32, feature: u64) {
+fn answer<P: Print>(rt: &P, words: &[u32], size: u32, feature: u64) -> io::Result<()> {
     let list = lists::list_for(words, size, feature);
-    io::print_decimal(STDOUT_FILENO, start_of(words, size, feature) as u64);
-    put(list.len() as u64);
-    put_words(list);
-    io::write_all(STDOUT_FILENO, b"\n");
+    print!(rt; "{}", start_of(words, size, feature))?;
+    put(rt, list.len() as u64)?;
+    put_words(rt, list)?;
+    println!(rt)
 }
 
 // The end of a case.
-fn ended(words: &[u32], case: Case) {
+fn ended<P: Print>(rt: &P, words: &[u32], case: Case) -> io::Result<()> {
     let count = case.count;
     if count <= words.len() {
-        answer(&words[0..count], case.size, case.feature);
+        answer(rt, &words[0..count], case.size, case.feature)?;
     }
+    Ok(())
 }
 
 // One byte of the input.
-fn step(words: &mut [u32], case: Case, b: u8) -> Case {
+fn step<P: Print>(rt: &P, words: &mut [u32], case: Case, b: u8) -> io::Result<Case> {
     if 48 <= b && b <= 57 {
-        return digit(case, b - 48);
+        return Ok(digit(case, b - 48));
     }
     let done = closed(words, case);
     if b == 10 {
-        ended(words, done);
-        return no_case();
+        ended(rt, words, done)?;
+        return Ok(no_case());
     }
-    done
+    Ok(done)
 }
 
 // The bytes of a chunk.
-fn chunk(words: &mut [u32], first: Case, bytes: &[u8]) -> Case {
+fn chunk<P: Print>(rt: &P, words: &mut [u32], first: Case, bytes: &[u8]) -> io::Result<Case> {
     let mut case = first;
     let mut i: usize = 0;
     while i < bytes.len() {
-        case = step(words, case, bytes[i]);
+        case = step(rt, words, case, bytes[i])?;
         i += 1;
     }
-    case
+    Ok(case)
 }
 
-fn main() {
+fn main(rt: HostRuntime) -> io::Result<()> {
     let mut words = room();
-    let mut bytes = io::large_buffer();
+    let mut bytes = [0u8; 65536];
     let mut case = no_case();
     let mut left: u64 = 1000000000;
     while 0 < left {
-        let got = io::read_full(STDIN_FILENO, &mut bytes);
-        case = chunk(&mut words, case, &bytes[0..got]);
+        let input = streams::read_input(&mut rt.stdin(), &mut bytes);
+        if let Some(error) = input.failure {
+            return Err(error);
+        }
+        let got = input.len;
+        case = chunk(&rt, &mut words, case, &bytes[0..got])?;
         if got < 65536 {
             break;
         }
         left -= 1;
     }
+    Ok(())
 }

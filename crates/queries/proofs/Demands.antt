@@ -161,7 +161,7 @@ module _ (bytes ends : List ℕ) (m p q allowance : ℕ) (w : List ℕ) where
           places = within (row_room c) (query_room ends o);
           rows = fits (row_room c) (query_room ends o);
           all = by_all (eqb reached (length ends)) refl;
-          not-all = λ e. ap number (eq-eqb reached (length ends) e);
+          not_all = λ e. ap number (eq-eqb reached (length ends) e);
           early = λ h. ⊎_elim (λ (e : reached ≡ query_room ends o). inl e) (λ (l : reached < query_room ends o). inr (stops (row_room c) (query_room ends o) l)) (eq-or-lt_of_le (within (row_room c) (query_room ends o)));
           enough = λ a b. ap number (eq-eqb reached (length ends) (enough a b));
           stands = stands;

@@ -8,7 +8,7 @@
 
 ghost use Rattle.std.specs.Prelude.{◌≡◌, length};
 
-use libc::{STDIN_FILENO, STDOUT_FILENO};
+use std::io;
 
 // What was read of a case: the slice's length, whether the register has begun, how many of its bytes are stored, and the first digit of an open pair.
 #[derive(Clone, Copy)]
@@ -54,37 +54,38 @@ fn lend(words: &mut [u32]) {
 }
 
 // A number, with a space before it.
-fn put(n: u64) {
-    io::write_all(STDOUT_FILENO, b" ");
-    io::print_decimal(STDOUT_FILENO, n);
+fn put<P: Print>(rt: &P, n: u64) -> io::Result<()> {
+    print!(rt; " {n}")
 }
 
-fn put_words(words: &[u32]) {
+fn put_words<P: Print>(rt: &P, words: &[u32]) -> io::Result<()> {
     let mut i = 0;
     while i < words.len() {
-        put(words[i] as u64);
+        put(rt, words[i] as u64)?;
         i += 1;
     }
+    Ok(())
 }
 
 // Builds, and writes the answer.
-fn answer(register: &[u8], words: &mut [u32]) {
+fn answer<P: Print>(rt: &P, register: &[u8], words: &mut [u32]) -> io::Result<()> {
     lend(words);
     let built = register::build(register, words);
-    io::print_decimal(STDOUT_FILENO, built.number as u64);
-    put(built.line as u64);
-    put_words(words);
+    print!(rt; "{}", built.number)?;
+    put(rt, built.line as u64)?;
+    put_words(rt, words)
 }
 
 // The end of a case.
-fn ended(bytes: &[u8], words: &mut [u32], case: Case) {
+fn ended<P: Print>(rt: &P, bytes: &[u8], words: &mut [u32], case: Case) -> io::Result<()> {
     let count = case.count;
     let length = case.length;
     if count <= bytes.len() {
         if length <= words.len() {
-            answer(&bytes[0..count], &mut words[0..length]);
+            answer(rt, &bytes[0..count], &mut words[0..length])?;
         }
     }
+    Ok(())
 }
 
 // The value of a digit, 16 for what is none.
@@ -136,54 +137,71 @@ fn digit(bytes: &mut [u8], case: Case, d: u8) -> Case {
 }
 
 // One byte of the input.
-fn step(bytes: &mut [u8], words: &mut [u32], case: Case, b: u8) -> Case {
+fn step<P: Print>(
+    rt: &P,
+    bytes: &mut [u8],
+    words: &mut [u32],
+    case: Case,
+    b: u8,
+) -> io::Result<Case> {
     if b == 10 {
-        ended(bytes, words, case);
-        io::write_all(STDOUT_FILENO, b"\n");
-        return no_case();
+        ended(rt, bytes, words, case)?;
+        println!(rt)?;
+        return Ok(no_case());
     }
     if b == 32 {
-        return Case {
+        return Ok(Case {
             length: case.length,
             begun: true,
             count: 0,
             open: false,
             high: 0,
-        };
+        });
     }
     let d = value(b);
     if 15 < d {
-        return case;
+        return Ok(case);
     }
     if case.begun {
-        return digit(bytes, case, d);
+        return Ok(digit(bytes, case, d));
     }
-    longer(case, d)
+    Ok(longer(case, d))
 }
 
 // The bytes of a chunk.
-fn chunk(bytes: &mut [u8], words: &mut [u32], first: Case, input: &[u8]) -> Case {
+fn chunk<P: Print>(
+    rt: &P,
+    bytes: &mut [u8],
+    words: &mut [u32],
+    first: Case,
+    input: &[u8],
+) -> io::Result<Case> {
     let mut case = first;
     let mut i: usize = 0;
     while i < input.len() {
-        case = step(bytes, words, case, input[i]);
+        case = step(rt, bytes, words, case, input[i])?;
         i += 1;
     }
-    case
+    Ok(case)
 }
 
-fn main() {
+fn main(rt: HostRuntime) -> io::Result<()> {
     let mut words = room();
     let mut bytes = page();
-    let mut input = io::large_buffer();
+    let mut input = [0u8; 65536];
     let mut case = no_case();
     let mut left: u64 = 1000000000;
     while 0 < left {
-        let got = io::read_full(STDIN_FILENO, &mut input);
-        case = chunk(&mut bytes, &mut words, case, &input[0..got]);
+        let read = streams::read_input(&mut rt.stdin(), &mut input);
+        if let Some(error) = read.failure {
+            return Err(error);
+        }
+        let got = read.len;
+        case = chunk(&rt, &mut bytes, &mut words, case, &input[0..got])?;
         if got < 65536 {
             break;
         }
         left -= 1;
     }
+    Ok(())
 }

@@ -1,0 +1,13 @@
+-- `put_row` meets its contract: the line fills its part, and the rest stays.
+use mathlib.Core.List.{[], ◌∷◌}
+use Rattle.fields.specs.Layouts.{out_of}
+use Rattle.fields.proofs.Fitted.{put_at_lem}
+use Rattle.frames.specs.Frames.{row_frame, row_line_length}
+use Rattle.answers.specs.Output.{row_line}
+use Rattle.answers.proofs.Text.{row_exact}
+use Rattle.answers.proofs.put_row.Goals as goal
+
+pub returns : goal.returns
+returns c =
+    let a = c.args in
+    put_at_lem row_line_length a.k a.out.now c.write_row.new.out (row_line a.id a.shared a.size a.least) (out_of row_frame (a.id ∷ a.shared ∷ a.size ∷ a.least ∷ []) []) c.requires.5 c.write_row.ensures.out_after (row_exact a.id a.shared a.size a.least)

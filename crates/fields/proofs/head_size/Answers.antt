@@ -1,0 +1,43 @@
+-- `head_size` meets its contract: after k turns n is 1 and the first k widths.
+-- Assumes nothing.
+use mathlib.Core.Path.{◌≡◌, refl}
+use Prim.Native.Nat.{◌-◌, ◌<◌}
+use native.Mathlib.Omega.{arith}
+use lib.ListN.{length, get_or, take}
+use lib.Seq.{take-length}
+use mir.Syntax.{w8}
+use mir.Val.{Fits}
+use borrow.Author.Rules.{rules}
+use Rattle.laws.specs.Lists.{sum_of}
+use Rattle.fields.specs.Layouts.{head_size}
+use Rattle.fields.proofs.Layouts.{most, sum_more}
+use Rattle.fields.proofs.head_size.Goals as goal
+
+pub loop-k-init : goal.loop-k-init
+unfolding sum_of
+loop-k-init c = (omega arith, refl, omega arith)
+
+-- a width is a byte
+below : (c : goal.After-n-1) → get_or c.args.layout.widths c.loop-k.k 0 < 256
+below c =
+    let h : Fits w8 (get_or c.args.layout.widths c.loop-k.k 0) = search rules in
+    h.fits
+
+pub overflow_add-n : goal.overflow_add-n
+overflow_add-n c = let h = below c in omega arith
+
+pub loop-k-preserved : goal.loop-k-preserved
+loop-k-preserved c =
+    let w = c.args.layout.widths in
+    let n : length w ≡ most = search rules in
+    let m = sum_more w c.loop-k.k (omega arith) in
+    let h = below c in
+    (omega arith, omega arith, omega arith)
+
+pub returns : goal.returns
+unfolding head_size
+returns c =
+    let w = c.args.layout.widths in
+    let n : length w ≡ most = search rules in
+    let e : c.loop-k.k ≡ length w = omega arith in
+    (rw (e, take-length w) at c.loop-k.invariant.1, omega arith)

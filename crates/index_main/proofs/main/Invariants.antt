@@ -1,0 +1,4 @@
+use Rattle.index_main.proofs.main.Given as goal
+
+abbrev pub decreases-loop-left : goal.decreases-loop-left
+decreases-loop-left l = l.left

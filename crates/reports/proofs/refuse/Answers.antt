@@ -1,0 +1,11 @@
+-- `refuse` meets its contract: the low bytes of the line are all that its frame says.
+use mathlib.Core.Path.{◌∙◌}
+use lib.ListN.{length}
+use Rattle.reports.proofs.Text.{refusal_written, refusal_out_lem}
+use Rattle.reports.proofs.refuse.Goals as goal
+
+pub returns : goal.returns
+returns c =
+    let a = c.args in
+    let w = c.write_import_refusal.ensures in
+    (w.value ∙ refusal_written a.part a.number a.line (length a.out.now), w.out_after ∙ refusal_out_lem a.part a.number a.line a.out.now)

@@ -1,0 +1,11 @@
+-- `rushgirdle_write_row` meets its contract: the layer's answer, set out.
+use mathlib.Core.Path.{ap}
+use Rattle.surface.specs.Flat.{write_answer}
+use Rattle.surface.proofs.rushgirdle_write_row.Goals as goal
+
+pub returns : goal.returns
+returns c = let e = c.write_row-w.ensures in
+    record {
+      value = ap write_answer e.value;
+      out_after = e.out_after;
+    }

@@ -1,0 +1,12 @@
+-- `row_word` meets its contract.
+use mathlib.Core.Path.{ap}
+use Prim.Native.Nat.{ℕ, ◌+◌}
+use lib.ListN.{get_or}
+use Rattle.words.proofs.row_word.Goals as goal
+
+-- not turned: no step `row_start_lem` above After-shared_slice_known-2-1
+-- pub returns : goal.returns
+-- returns : tie.Need-returns
+-- returns c =
+--     let a = c.before.before.before.args in
+--     ap (λ (n : ℕ). get_or a.words.now (n + a.k) 0) c.before.row_start_lem.ensures.0
