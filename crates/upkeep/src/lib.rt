@@ -33,6 +33,7 @@ fn narrow(items: &[u64], out: &mut [u32])
 }
 
 // Puts the features of a good name into `out`, in ascending order. Answers how many there are.
+#[inline(never)]
 fn sorted_features(name: &[u8], out: &mut [u32]) -> usize
     requires { (judge_of name.now ≡ 0) × (length out.old ≡ most_features) }
     ensures { (result ≡ length (features_of name.now)) × (take result out.new ≡ sort_of (features_of name.now)) }
