@@ -3,21 +3,21 @@
 -- Assumes nothing.
 use mathlib.Core.Path.{◌≡◌, refl, sym, ap, ap₂, subst, ◌∙◌}
 use mathlib.Core.Logic.{⊎_elim}
-use mathlib.Core.Bool.{Bool, true, false, cond, ◌||◌, false≢true}
-use mathlib.Core.List.{List, [], ◌∷◌, ◌++◌, map, append-nil, append_assoc}
-use Prim.Native.Nat.{ℕ, zero, suc, ◌+◌, ◌-◌, ◌≤◌, ◌<◌}
+use mathlib.Core.Bool.{Bool, true, false, cond, ◌||◌}
+use mathlib.Core.List.{List, [], ◌∷◌, ◌++◌, map, append-nil}
+use Prim.Native.Nat.{ℕ, zero, suc, ◌+◌, ◌-◌, ◌<◌}
 use native.Mathlib.Omega.{arith}
-use lib.ListN.{length, get_or, take, drop, replicate}
+use lib.ListN.{length, get_or, take, replicate}
 use Rattle.laws.specs.Lists.{count_of, tabulate}
 use Rattle.laws.specs.Each.{Each}
 use Rattle.laws.proofs.Lists.{count_append}
 use Rattle.laws.proofs.Tests.{or_right}
-use Rattle.laws.proofs.Members.{or_cases, each_nil, each_cons, each_append}
+use Rattle.laws.proofs.Members.{or_cases, each_nil, each_append}
 use Rattle.laws.proofs.Images.{each_tabulate}
 use Rattle.laws.proofs.Order.{eq_or_ne}
 use Rattle.hex_digits.specs.Lines.{digit_of, place_in, value_of, hex_of, hex_line, bytes_of}
 use Rattle.hex_digits.proofs.Lines.{last_feed}
-use Rattle.fields.specs.Layouts.{is_frame, line_of, field_bytes, name_bytes}
+use Rattle.fields.specs.Layouts.{is_frame, line_of}
 use Rattle.fields.proofs.Layouts.{frame_other, frame_well_formed}
 use Rattle.fields.proofs.Laws.{frame_line}
 use Rattle.frames.specs.Frames.{query_frame, row_frame, end_frame, refusal_frame}
@@ -25,7 +25,6 @@ use Rattle.lines.specs.Lines.{lines_of, joined}
 use Rattle.search.specs.Answers.{Columns}
 use Rattle.search.specs.declared.Answer.{Answer}
 use Rattle.search.specs.declared.Answer.TheVariants.{Found, Refused}
-use Rattle.answers.specs.declared.Opened.{Opened}
 use Rattle.answers.specs.Output.{row_line, end_line, refusal_line, row_text, rows_text, found_text, answer_text, search_for, columns_for, answer_of, ends_answer, answer_lines, queries_of, opened_of, open_words, program_words, answers_text, output_of}
 use Rattle.lines.proofs.Cut.{Line, Ended, lines_joined, joined_append, ended_behind, ended_each, broken_fewer}
 use Rattle.fields.proofs.Fitted.{one_line}

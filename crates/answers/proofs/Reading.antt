@@ -3,13 +3,10 @@
 use mathlib.Core.Path.{◌≡◌, refl, ap}
 use mathlib.Core.Logic.{⊎_elim}
 use mathlib.Core.Bool.{Bool, true, false, cond}
-use mathlib.Core.List.{List, []}
-use Prim.Native.Nat.{ℕ, ◌*◌, ◌≤◌, ◌<◌}
+use mathlib.Core.List.{List}
+use Prim.Native.Nat.{ℕ, ◌≤◌, ◌<◌}
 use native.Mathlib.Omega.{arith}
 use lib.ListN.{length, get_or}
-use lib.Dec.{eqb}
-use borrow.Author.Tests.{ne_eqb}
-use Rattle.laws.specs.Lists.{tabulate}
 use Rattle.laws.proofs.Order.{eq_or_ne}
 use Rattle.names.specs.Features.{features_of}
 use Rattle.likeness.specs.Terms.{lowest_terms}
@@ -27,7 +24,7 @@ use Rattle.sizes.specs.Method.{touches_of, answers_of}
 use Rattle.search.specs.Answers.{number_in, rows_in, Columns}
 use Rattle.search.specs.declared.Answer.{Answer}
 use Rattle.search.specs.declared.Answer.TheVariants.{Found, Refused}
-use Rattle.search.proofs.Outcomes.{refused_empty, Answered, answered}
+use Rattle.search.proofs.Outcomes.{refused_empty, answered}
 use Rattle.answers.specs.Output.{end_line, refusal_line, row_text, answer_text, rows_lent, longest_answer, query_in, measure_in, p_in, q_in, allowance_in, search_for, columns_for, answer_of}
 use Rattle.answers.specs.Rows.{Shown}
 use Rattle.answers.proofs.Text.{length_found}

@@ -2,7 +2,6 @@
 -- Assumes nothing.
 use mathlib.Core.Path.{◌≡◌, refl, sym, ap, ap₂, ◌∙◌}
 use mathlib.Core.Logic.{◌⊎◌, ⊎_elim}
-use mathlib.Core.Bool.{true, false, cond}
 use Rattle.laws.proofs.Order.{le_or_lt}
 use mathlib.Core.List.{List, [], ◌∷◌, ◌++◌}
 use Prim.Native.Nat.{ℕ, ◌+◌, ◌-◌, ◌≤◌, ◌<◌}
@@ -10,16 +9,13 @@ use native.Mathlib.Nat.{add-zero}
 use native.Mathlib.Omega.{arith}
 use lib.ListN.{length, take, drop, length-drop, replicate, drop_of_length-le}
 use lib.Seq.{drop-drop}
-use lib.Dec.{eqb, leb, ltb}
 use borrow.Author.Tests.{eq-eqb, ne_eqb, lt-ltb, le-ltb}
 use Rattle.fields.specs.declared.Written.{Written}
 use Rattle.lines.specs.Lines.{lines_of, line_length}
 use Rattle.lines.proofs.Lines.{line_some, lines_nil, lines_step, length_line_end}
 use Rattle.fields.specs.Fitted.{fitting_of, fitted_of}
 use Rattle.fields.proofs.Fitted.{fitting_all, fitted_all, fitting_within}
-use Rattle.answers.specs.declared.Response.{Response}
-use Rattle.answers.specs.declared.Opened.{Opened}
-use Rattle.answers.specs.Output.{register_end, queries_of, opened_of, open_words, program_words, refusal_line, answer_of, line_text, responded_of, answers_text, output_of}
+use Rattle.answers.specs.Output.{register_end, opened_of, open_words, program_words, refusal_line, answer_of, line_text, responded_of, answers_text, output_of}
 
 module _ (w input : List ℕ) (at : ℕ) where
   -- past the end

@@ -1,26 +1,25 @@
 -- Laws of the counts of all names: one list more, one later feature more, and how many remain. Cited by the proofs of the phases and by `sizes`.
 -- Assumes nothing.
-use mathlib.Core.Path.{◌≡◌, refl, sym, ap, ap₂, ◌∙◌}
+use mathlib.Core.Path.{◌≡◌, refl, sym, ap, ◌∙◌}
 use mathlib.Core.Logic.{◌⊎◌, ⊎_elim}
-use mathlib.Core.Bool.{Bool, true, false, cond, ◌&&◌, true≢false, false≢true}
-use mathlib.Core.List.{List, [], ◌∷◌, ◌++◌, map}
-use Prim.Native.Nat.{ℕ, zero, suc, ◌+◌, ◌-◌, ◌/◌, ◌%◌, ◌≤◌, ◌<◌}
+use mathlib.Core.Bool.{Bool, true, false, cond, ◌&&◌}
+use mathlib.Core.List.{List, [], ◌∷◌, map}
+use Prim.Native.Nat.{ℕ, zero, suc, ◌+◌, ◌-◌, ◌≤◌, ◌<◌}
 use native.Mathlib.Numerals.{add-one}
 use native.Mathlib.Omega.{arith}
-use lib.ListN.{length, get_or, take, drop, replicate, length-take, length-replicate, get_or-replicate, get_or-eq_default}
-use lib.Seq.{take-suc, length-take-le}
-use lib.Dec.{eqb, ltb, leb}
+use lib.ListN.{length, get_or, take, replicate, length-take, length-replicate, get_or-replicate, get_or-eq_default}
+use lib.Dec.{ltb, leb}
 use borrow.Author.Tests.{eq-eqb, ne_eqb, lt-ltb, le-ltb, le-leb, lt-leb, leb-true, ltb-true}
 use Rattle.laws.specs.Lists.{member, tabulate, sum_of, count_of}
 use Rattle.laws.specs.Below.{sum_below, count_below}
 use Rattle.laws.proofs.Lists.{count_le, length_tabulate, get_d_tabulate, tabulate_ext}
 use Rattle.laws.proofs.Below.{sum_below_ext, sum_below_step, sum_below_up}
 use Rattle.laws.proofs.Tables.{table_of}
-use Rattle.laws.proofs.Tests.{same_test, and_parts}
+use Rattle.laws.proofs.Tests.{and_parts}
 use Rattle.laws.proofs.Order.{le_or_lt}
 use Rattle.index.specs.Good.{most_names}
 use Rattle.candidates.specs.Method.{held_by, signatures, remains, later_count}
-use Rattle.candidates.specs.Tables.{holds_at, MetBy, tallied, tested_at, tested, cut_at, cut_lists, Readable, held_table, remains_at, remain_table, later_touches}
+use Rattle.candidates.specs.Tables.{holds_at, MetBy, tallied, tested_at, tested, cut_at, cut_lists, held_table, remains_at, remain_table, later_touches}
 use Rattle.candidates.proofs.Candidates.{held_step, held_nil, remains_closed}
 use Rattle.candidates.proofs.Tables.{met_count}
 

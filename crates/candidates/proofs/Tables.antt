@@ -1,25 +1,25 @@
 -- Laws of the tables by place, one step of a loop each: a posting tallied, a candidate tested. Cited by the proofs of the code.
 -- Assumes nothing.
-use mathlib.Core.Path.{◌≡◌, refl, sym, ap, ap₂, ◌∙◌}
-use mathlib.Core.Logic.{◌⊎◌, ⊎_elim}
-use mathlib.Core.Bool.{Bool, true, false, cond, ◌&&◌, ◌||◌, true≢false, false≢true, or-false}
+use mathlib.Core.Path.{◌≡◌, refl, sym, ap, ◌∙◌}
+use mathlib.Core.Logic.{⊎_elim}
+use mathlib.Core.Bool.{Bool, true, false, cond, ◌&&◌, ◌||◌, or-false}
 use mathlib.Core.List.{List, [], ◌∷◌, ◌++◌}
-use Prim.Native.Nat.{ℕ, zero, suc, ◌+◌, ◌≤◌, ◌<◌}
+use Prim.Native.Nat.{ℕ, ◌+◌, ◌≤◌, ◌<◌}
 use native.Mathlib.Numerals.{add-one}
 use native.Mathlib.Omega.{arith}
 use lib.ListN.{length, get_or, take, set, length-set, get_or-eq_default}
 use lib.Seq.{take-suc, take-suc-set, length-take-le, get_or-set_same, get_or-set_other}
 use lib.Dec.{eqb, ltb, leb}
-use borrow.Author.Tests.{eq-eqb, ne_eqb, eqb-true, eqb-false, lt-ltb, le-ltb, le-leb, lt-leb}
+use borrow.Author.Tests.{eq-eqb, ne_eqb, eqb-true, lt-ltb, le-ltb, le-leb}
 use Rattle.laws.specs.Lists.{member, Distinct, Ascending, tabulate}
 use Rattle.laws.proofs.Ascending.{ascending_at, rises_apart}
-use Rattle.laws.proofs.Lists.{eqb_same, member_append, distinct_snoc, length_tabulate, get_d_tabulate, tabulate_ext}
+use Rattle.laws.proofs.Lists.{member_append, distinct_snoc, length_tabulate, get_d_tabulate, tabulate_ext}
 use Rattle.laws.proofs.Tables.{table_set, tabulate_self, length_members}
 use Rattle.laws.proofs.Order.{eq_or_ne, le_or_lt}
 use Rattle.laws.specs.Below.{count_below}
 use Rattle.laws.proofs.Below.{and_false_right, count_below_fewer}
 use Rattle.index.specs.Good.{most_names}
-use Rattle.candidates.specs.Tables.{holds_at, MetBy, tallied, tested_at, tested}
+use Rattle.candidates.specs.Tables.{holds_at, MetBy, tallied}
 
 -- ---- ids are told apart by their places
 

@@ -2,21 +2,21 @@
 -- and by Places.antt.
 -- Assumes nothing.
 use mathlib.Core.Path.{◌≡◌, refl, sym, ap, ap₂, ◌∙◌}
-use mathlib.Core.Logic.{◌⊎◌, ⊎_elim}
-use mathlib.Core.Bool.{Bool, true, false, cond, ◌&&◌, ◌||◌, true≢false, false≢true}
+use mathlib.Core.Logic.{⊎_elim}
+use mathlib.Core.Bool.{Bool, true, false, cond, ◌&&◌, ◌||◌, true≢false}
 use mathlib.Core.List.{List, [], ◌∷◌, ◌++◌, append-nil}
 use Prim.Native.Nat.{ℕ, zero, suc, ◌+◌, ◌≤◌, ◌<◌}
 use native.Mathlib.Numerals.{add-one}
 use native.Mathlib.Omega.{arith}
 use lib.ListN.{length, get_or, take, drop, set, length-set, get_or-eq_default}
-use lib.Seq.{take-take, drop-drop, take-suc, take-suc-set, take-append_seam, length-take-le, drop-set-lt, get_or-set_same, get_or-set_other, get_or-drop, get_or-take}
-use lib.Dec.{eqb, ltb, leb}
-use borrow.Author.Tests.{eq-eqb, ne_eqb, eqb-true, eqb-false, lt-ltb, le-ltb, le-leb, lt-leb, leb-true, leb-false}
-use Rattle.laws.specs.Lists.{member, Distinct, tabulate}
+use lib.Seq.{take-take, drop-drop, take-suc, take-suc-set, length-take-le, drop-set-lt, get_or-set_same, get_or-set_other, get_or-drop, get_or-take}
+use lib.Dec.{eqb, leb}
+use borrow.Author.Tests.{eq-eqb, ne_eqb, eqb-true, lt-ltb, le-ltb, le-leb, leb-true, leb-false}
+use Rattle.laws.specs.Lists.{member, Distinct}
 use Rattle.laws.specs.Filter.{filter_of}
-use Rattle.laws.proofs.Lists.{eqb_swap, member_append}
+use Rattle.laws.proofs.Lists.{member_append}
 use Rattle.laws.proofs.Members.{member_at}
-use Rattle.laws.proofs.Filter.{filter_nil, filter_snoc, length_filter, member_filter, distinct_filter}
+use Rattle.laws.proofs.Filter.{filter_nil, filter_snoc, member_filter, distinct_filter}
 use Rattle.laws.proofs.Tables.{table_of}
 use Rattle.laws.proofs.Order.{eq_or_ne, le_or_lt}
 use Rattle.index.specs.Good.{most_names}

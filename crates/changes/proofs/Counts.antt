@@ -2,23 +2,21 @@
 -- For whoever has to know how many words it takes before a word is changed.
 -- Assumes nothing.
 use mathlib.Core.Path.{◌≡◌, refl, sym, ap, ◌∙◌}
-use mathlib.Core.Bool.{Bool, true, false, cond, not, true≢false}
+use mathlib.Core.Bool.{false, true≢false}
 use mathlib.Core.List.{List, [], ◌∷◌}
-use Prim.Native.Nat.{ℕ, suc, ◌+◌, ◌<◌}
+use Prim.Native.Nat.{ℕ, suc, ◌+◌}
 use native.Mathlib.Omega.{arith}
 use lib.ListN.{length, length-append}
 use borrow.Author.Tests.{ne_eqb}
-use Rattle.laws.specs.Lists.{member, Distinct, Ascending, count_of}
+use Rattle.laws.specs.Lists.{member}
 use Rattle.laws.specs.Sort.{insert}
 use Rattle.laws.proofs.Members.{member_head}
-use Rattle.laws.proofs.Sort.{above_member, ascending_above, ascending_rest, length_insert}
-use Rattle.laws.proofs.Tests.{test_fails}
+use Rattle.laws.proofs.Sort.{length_insert}
 use Rattle.words.specs.Words.{key_of}
 use Rattle.index_writer.specs.Built.{Row, lists_of}
 use Rattle.changes.specs.Rows.{keys_in, put_posting, with_postings}
 use Rattle.changes.proofs.Lists.{absent_rest}
 use Rattle.changes.proofs.Put.{put_nil, put_cases, key_put}
-use Rattle.changes.proofs.Later.{postings_keys}
 use Rattle.changes.proofs.Added.{postings_nil, postings_cons}
 
 -- ---- postings

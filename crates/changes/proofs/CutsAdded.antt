@@ -27,12 +27,12 @@ use Rattle.splicing.specs.Splice.{put_at, put_in}
 use Rattle.splicing.proofs.Laws.{length_put_in, put_in_append}
 use Rattle.binary_search.specs.Seats.{place_of}
 use Rattle.changes.specs.Rows.{keys_in, lone_row, row_with, put_posting, with_postings}
-use Rattle.changes.specs.Cuts.{RowsShort, of_features, has_row, row_seat, posting_seat, placed_from, row_cuts, new_rows, posting_cuts}
+use Rattle.changes.specs.Cuts.{RowsShort, of_features, has_row, row_seat, posting_seat, row_cuts, new_rows, posting_cuts}
 use Rattle.changes.proofs.Lists.{place_passed, place_first, place_mono, insert_place, sorted_map, put_in_same, put_at_left, put_at_right}
 use Rattle.changes.proofs.Put.{put_nil, put_cases, put_keys}
 use Rattle.changes.proofs.Later.{postings_keys, later_place}
 use Rattle.changes.proofs.Counts.{absent_head, key_postings}
-use Rattle.changes.proofs.Placed.{rows_as_words, short_same, short_length, short_keys, short_met, short_new, placed_words}
+use Rattle.changes.proofs.Placed.{rows_as_words, short_same, short_length, short_keys, short_met, short_new}
 
 -- ---- where the id goes among the postings, row by row
 

@@ -4,7 +4,7 @@
 use mathlib.Core.Path.{◌≡◌, refl, sym, ap, ap₂, ◌∙◌}
 use mathlib.Core.Bool.{Bool, true, false, cond}
 use mathlib.Core.List.{List, [], ◌∷◌, ◌++◌, map, map-append, append_assoc, append-nil}
-use Prim.Native.Nat.{ℕ, ◌+◌, ◌*◌, ◌/◌, ◌≤◌, ◌<◌}
+use Prim.Native.Nat.{ℕ, ◌+◌, ◌*◌, ◌≤◌, ◌<◌}
 use native.Mathlib.Nat.{add-zero}
 use native.Mathlib.Numerals.{add-one}
 use native.Mathlib.Omega.{arith}
@@ -15,11 +15,9 @@ use borrow.Author.Tests.{eq-eqb, ne_eqb}
 use Rattle.laws.specs.Lists.{member, Ascending, count_of}
 use Rattle.laws.specs.Each.{Each}
 use Rattle.laws.proofs.Images.{count_tabulate}
-use Rattle.laws.proofs.Lists.{length_tabulate, get_d_tabulate}
 use Rattle.laws.proofs.Members.{each_first, each_rest}
-use Rattle.laws.proofs.Tests.{test_fails}
 use Rattle.names.specs.Features.{most_features}
-use Rattle.words.specs.Words.{name_count, name_id, name_size, row_count, row_width, row_size, feature_span}
+use Rattle.words.specs.Words.{name_count, name_id, name_size, row_count, row_width, row_size}
 use Rattle.index.specs.Good.{lists_with, Good}
 use Rattle.lists.proofs.Laws.{holder_size}
 use Rattle.index_writer.specs.Built.{Row, no_row, lists_of, RowFit}
@@ -30,7 +28,7 @@ use Rattle.binary_search.specs.Seats.{place_of}
 use Rattle.changes.specs.Others.{others_of}
 use Rattle.changes.specs.Cuts.{RowsAs, thin_row, thin_to, cuts_of, empty_words, empty_cuts, id_place, id_cuts, withdraw_cuts}
 use Rattle.changes.proofs.Lists.{map_take, others_none}
-use Rattle.changes.proofs.Placed.{size_at_lem, count_at, count_set}
+use Rattle.changes.proofs.Placed.{count_at, count_set}
 use Rattle.changes.proofs.Taken.{length_others}
 use Rattle.changes.proofs.CutsWithdrawn.{cuts_few, cuts_one, empty_append, id_append, length_id, length_withdraw}
 

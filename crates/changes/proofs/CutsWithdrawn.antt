@@ -7,9 +7,8 @@ use mathlib.Core.List.{List, [], ◌∷◌, ◌++◌, map, map-id, append_assoc,
 use Prim.Native.Nat.{ℕ, suc, ◌+◌, ◌*◌, ◌/◌, ◌%◌, ◌≤◌, ◌<◌}
 use native.Mathlib.Nat.{zero-add}
 use native.Mathlib.Omega.{arith}
-use lib.ListN.{length, get_or, take, drop, set, take-append-drop, length-append, length-map}
+use lib.ListN.{length, get_or, take, drop, take-append-drop, length-append, length-map}
 use lib.Dec.{eqb}
-use borrow.Rule.Slice.PartMut.{put_mid}
 use borrow.Author.Tests.{ne_eqb}
 use Rattle.laws.specs.Lists.{member, AllAbove, Ascending, count_of, sum_of}
 use Rattle.laws.specs.Each.{Each}
@@ -24,9 +23,9 @@ use Rattle.index_writer.proofs.Read.{length_row_words}
 use Rattle.binary_search.specs.Seats.{place_of}
 use Rattle.changes.specs.Others.{others_of}
 use Rattle.changes.specs.Rows.{kept_row, without_postings}
-use Rattle.changes.specs.Cuts.{RowsAs, placed_from, thin_row, cuts_of, empty_words, empty_cuts, id_place, id_cuts, withdraw_cuts, settled}
+use Rattle.changes.specs.Cuts.{RowsAs, thin_row, cuts_of, empty_words, empty_cuts, id_place, id_cuts, withdraw_cuts, settled}
 use Rattle.changes.proofs.Withdrawn.{lists_withdrawn}
-use Rattle.changes.proofs.Placed.{rows_as_words, rows_as_length, short_same, placed_same, settled_words}
+use Rattle.changes.proofs.Placed.{rows_as_words, rows_as_length, short_same, settled_words}
 use Rattle.changes.proofs.Taken.{ascending_parts, below_parts, shift_parts, others_taken, own_place}
 
 -- ---- places in parts that stand end to end

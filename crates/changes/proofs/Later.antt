@@ -1,10 +1,10 @@
 -- Postings put in from the last feature to the first: those of later features leave the rows before a feature's place as they were, and the row
 -- there if it is the feature's. So places found in the rows as they were hold for the rows as they are by then: `step-met` and `step-new`.
 -- Assumes nothing.
-use mathlib.Core.Path.{◌≡◌, refl, sym, ap, ap₂, ◌∙◌}
+use mathlib.Core.Path.{◌≡◌, refl, sym, ap, ◌∙◌}
 use mathlib.Core.Logic.{⊎_elim}
 use mathlib.Core.Bool.{true, cond}
-use mathlib.Core.List.{List, [], ◌∷◌, ◌++◌}
+use mathlib.Core.List.{List, [], ◌∷◌}
 use Prim.Native.Nat.{ℕ, suc, ◌+◌, ◌≤◌, ◌<◌}
 use native.Mathlib.Numerals.{add-one}
 use native.Mathlib.Omega.{arith}
@@ -18,11 +18,11 @@ use Rattle.laws.proofs.Members.{member_head, member_tail}
 use Rattle.laws.proofs.Order.{le_or_lt}
 use Rattle.laws.proofs.Sort.{above_member, ascending_rest}
 use Rattle.words.specs.Words.{key_of}
-use Rattle.index_writer.specs.Built.{Row, no_row, lists_of}
+use Rattle.index_writer.specs.Built.{Row, no_row}
 use Rattle.binary_search.specs.Seats.{place_of}
-use Rattle.changes.specs.Rows.{keys_in, lone_row, row_with, put_posting, with_postings}
+use Rattle.changes.specs.Rows.{keys_in, put_posting, with_postings}
 use Rattle.changes.proofs.Lists.{place_nil, place_passed, place_over, place_first, place_next, drop_above}
-use Rattle.changes.proofs.Put.{put_nil, put_cases, put_keys, put_met, put_new}
+use Rattle.changes.proofs.Put.{put_nil, put_cases, put_keys}
 use Rattle.changes.proofs.Added.{postings_cons}
 
 -- ---- one posting: the rows of keys below x, where x is not above its key

@@ -23,7 +23,7 @@ use Rattle.laws.proofs.Order.{le_or_lt}
 use Rattle.laws.proofs.Sort.{above_member, above_members, from_member, from_members, sorted_nil, sorted_cons, sorted_from, sorted_rest, ascending_nil, ascending_cons, ascending_above, ascending_first, ascending_rest, ascending_right, ascending_distinct, ascending_sorted, ascending_sort, ascending_unique, sorted_ascending, insert_nil, insert_met, insert_passed, sorted_insert, distinct_insert, member_sort}
 use Rattle.laws.proofs.Tests.{test_fails}
 use Rattle.splicing.specs.Splice.{put_at, put_in}
-use Rattle.splicing.proofs.Laws.{length_put_in, put_in_left, put_in_right}
+use Rattle.splicing.proofs.Laws.{put_in_left, put_in_right}
 use Rattle.binary_search.specs.Seats.{place_of}
 use Rattle.changes.specs.Others.{others_of}
 

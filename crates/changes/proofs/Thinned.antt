@@ -8,8 +8,8 @@ use mathlib.Core.List.{List, ◌∷◌, ◌++◌, map, append_assoc}
 use Prim.Native.Nat.{ℕ, zero, suc, ◌+◌, ◌*◌, ◌-◌, ◌≤◌, ◌<◌}
 use native.Mathlib.Numerals.{add-one}
 use native.Mathlib.Omega.{arith}
-use lib.ListN.{length, get_or, take, drop, set, length-set, take-append-drop}
-use lib.Seq.{get_or-set_other, take-set-le, drop-set-lt}
+use lib.ListN.{length, get_or, drop, set, length-set, take-append-drop}
+use lib.Seq.{get_or-set_other, drop-set-lt}
 use Rattle.laws.specs.Lists.{member}
 use Rattle.laws.specs.Each.{Each}
 use Rattle.laws.proofs.Lists.{length_tabulate}

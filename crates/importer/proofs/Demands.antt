@@ -1,12 +1,11 @@
 -- The demands on an import: specs/Demands.antt says what, this file shows it from the definitions and the theorems of `statements` and `weeks`.
 -- Assumes nothing.
 use mathlib.Core.Path.{◌≡◌, refl, sym, ap, ap₂, ◌∙◌}
-use mathlib.Core.Logic.{◌↔◌}
 use mathlib.Core.Bool.{Bool, true, false, cond}
-use mathlib.Core.List.{List, [], ◌∷◌, ◌++◌, map, append-nil, append_assoc}
-use Prim.Native.Nat.{ℕ, zero, suc, ◌+◌, ◌/◌, ◌%◌, ◌≤◌, ◌<◌}
+use mathlib.Core.List.{List, [], ◌∷◌, ◌++◌, map, append_assoc}
+use Prim.Native.Nat.{ℕ, ◌+◌, ◌<◌}
 use native.Mathlib.Omega.{arith}
-use lib.ListN.{length, get_or, take, drop, length-map}
+use lib.ListN.{length, get_or, drop, length-map}
 use lib.Seq.{take_at, get_or-take}
 use lib.Dec.{eqb, ltb}
 use borrow.Author.Tests.{eqb-false}
@@ -16,16 +15,15 @@ use Rattle.laws.proofs.Members.{member_place}
 use Rattle.laws.proofs.Sort.{sort_append, sort_append_swap}
 use Rattle.names.specs.Features.{features_of}
 use Rattle.likeness.specs.Terms.{lowest_terms}
-use Rattle.lines.specs.Lines.{lines_of, nth_line}
 use Rattle.fields.specs.Layouts.{is_frame}
 use Rattle.log_frames.specs.Frames.{log_frame}
-use Rattle.words.specs.Words.{name_count, name_id, name_size}
-use Rattle.register.specs.Build.{id_in, words_after}
+use Rattle.words.specs.Words.{name_id}
+use Rattle.register.specs.Build.{words_after}
 use Rattle.sizes.specs.Method.{touches_of, answers_of}
 use Rattle.search.specs.Answers.{number_in, rows_in, refusal_of, search_good_of, search_of, places_given}
 use Rattle.search.specs.declared.Answer.{Answer}
 use Rattle.search.specs.declared.Answer.TheVariants.{Found, Refused as SearchRefused}
-use Rattle.statements.specs.Demands.{Question, columns, answer, number, after, Answered, Demand2, row_ids, Accepted, of_built}
+use Rattle.statements.specs.Demands.{columns, answer, number, after, Answered, Demand2, row_ids}
 use Rattle.statements.proofs.Demands.{searches}
 use Rattle.statements.proofs.Building.{end_to_end as lookup-end-to-end}
 use Rattle.statements.proofs.LogFrames.{log_frames}
@@ -35,7 +33,7 @@ use Rattle.importer.specs.declared.Settings.{Settings}
 use Rattle.importer.specs.declared.Outcome.{Outcome}
 use Rattle.importer.specs.declared.Outcome.TheVariants.{Belongs, Unresolved, Ambiguous, Refused}
 use Rattle.importer.specs.Import.{typed_in, row_room, outcome_from, answer_to, listed_for, outcome_of, day_in, reading_in as reading_of, entry_from, entry_in, entries_of}
-use Rattle.importer.specs.Demands.{Tells, question_of, Lines, EndToEnd, Reordered, none, keep, swap, then, Orders, Adds, Missing}
+use Rattle.importer.specs.Demands.{question_of, Lines, EndToEnd, Reordered, none, keep, swap, then, Orders, Adds, Missing}
 use Rattle.importer.proofs.Searching.{rows_given_lem}
 use Rattle.importer.proofs.Telling.{tells}
 

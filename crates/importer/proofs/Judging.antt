@@ -1,7 +1,7 @@
 -- Judging a line and all lines: the tests in the order of the definition, and what no refusal says of each line.
 -- Assumes nothing.
 use mathlib.Core.Path.{◌≡◌, refl, sym, ap, ◌∙◌}
-use mathlib.Core.Bool.{Bool, true, false, cond, not, true≢false}
+use mathlib.Core.Bool.{Bool, true, false, cond, not}
 use mathlib.Core.List.{List, [], ◌∷◌, ◌++◌}
 use Prim.Native.Nat.{ℕ, zero, suc, ◌+◌, ◌≤◌, ◌<◌}
 use native.Mathlib.Numerals.{add-one}
@@ -9,17 +9,17 @@ use native.Mathlib.Omega.{arith}
 use lib.ListN.{length, get_or, take, drop, drop_of_length-le}
 use lib.Seq.{drop-cons, take_at}
 use lib.Dec.{eqb, leb}
-use borrow.Author.Tests.{le-leb, lt-leb, leb-true, leb-false, eq-eqb, ne_eqb, eqb-true, eqb-false}
+use borrow.Author.Tests.{le-leb, lt-leb, leb-false, eq-eqb, ne_eqb, eqb-true, eqb-false}
 use Rattle.laws.specs.Cases.{first_case}
 use Rattle.lines.specs.Lines.{lines_of}
 use Rattle.fields.specs.declared.Reading.{Reading}
-use Rattle.fields.specs.Layouts.{is_frame, fields_in, name_in, accepted_as, refused_with, read_of, buffer_of}
+use Rattle.fields.specs.Layouts.{is_frame, accepted_as, refused_with, read_of, buffer_of}
 use Rattle.log_frames.specs.declared.LogRead.{LogRead}
 use Rattle.log_frames.specs.Frames.{log_frame, log_out}
 use Rattle.statements.proofs.LogFrames.{log_frames}
 use Rattle.importer.specs.Import.{day_in, reading_in, typed_in, most_lines, judge_line, Verdict, judged_from, verdict_on}
 use Rattle.importer.specs.Steps.{JudgedAll}
-use Rattle.importer.proofs.Reached.{line_at, Reached, Turn}
+use Rattle.importer.proofs.Reached.{line_at, Turn}
 
 -- ---- one line
 

@@ -1,10 +1,10 @@
 -- The pairs of an import: which there are, and what their sums and counts are, by the lines. specs/Demands.antt says it.
 -- Assumes nothing.
 use mathlib.Core.Path.{◌≡◌, refl, sym, ap, ap₂, ◌∙◌}
-use mathlib.Core.Logic.{◌↔◌, ◌⊎◌, ⊎_elim}
+use mathlib.Core.Logic.{⊎_elim}
 use mathlib.Core.Bool.{Bool, true, false, cond, not, ◌&&◌, ◌||◌}
 use mathlib.Core.List.{List, [], ◌∷◌, ◌++◌, map, map-append}
-use Prim.Native.Nat.{ℕ, zero, suc, ◌+◌, ◌*◌, ◌/◌, ◌%◌, ◌≤◌, ◌<◌}
+use Prim.Native.Nat.{ℕ, zero, suc, ◌+◌, ◌<◌}
 use native.Mathlib.Omega.{arith}
 use lib.ListN.{length, get_or}
 use lib.Dec.{eqb}
@@ -16,13 +16,13 @@ use Rattle.laws.proofs.Members.{member_nil, member_left, member_right, member_ap
 use Rattle.fields.specs.Layouts.{is_frame}
 use Rattle.log_frames.specs.Frames.{log_frame}
 use Rattle.statements.proofs.LogFrames.{log_frames}
-use Rattle.weeks.specs.Pairs.{week_of, span, missing, pair_of, entry_of, pair_in, reading_in as reading_of, present, pairs_of, amount, tally, sum_for, count_for}
+use Rattle.weeks.specs.Pairs.{week_of, missing, pair_of, entry_of, pair_in, reading_in as reading_of, present, amount, tally}
 use Rattle.weeks.proofs.Laws.{member_pairs, ascending_pairs}
 use Rattle.importer.specs.declared.Settings.{Settings}
 use Rattle.importer.specs.declared.Outcome.{Outcome}
 use Rattle.importer.specs.declared.Outcome.TheVariants.{Belongs, Unresolved, Ambiguous, Refused}
 use Rattle.importer.specs.Import.{day_in, reading_in, outcome_of, entry_from, entry_in, entries_of}
-use Rattle.importer.specs.Demands.{belongs_to, is_there, readings_of, PairDemand, Pairs}
+use Rattle.importer.specs.Demands.{belongs_to, is_there, readings_of, Pairs}
 
 -- ---- an entry and its parts again
 

@@ -1,12 +1,12 @@
 -- The lines of a log one after the other: what has been reached at a place, and one line more.
 -- Assumes nothing.
 use mathlib.Core.Path.{◌≡◌, refl, sym, ap, ◌∙◌}
-use mathlib.Core.List.{List, [], ◌∷◌, ◌++◌}
-use Prim.Native.Nat.{ℕ, zero, suc, ◌+◌, ◌-◌, ◌≤◌, ◌<◌}
+use mathlib.Core.List.{List, [], ◌∷◌}
+use Prim.Native.Nat.{ℕ, suc, ◌+◌, ◌-◌, ◌≤◌, ◌<◌}
 use native.Mathlib.Numerals.{add-one}
 use native.Mathlib.Omega.{arith}
 use lib.ListN.{length, get_or, take, drop, length-drop, drop_of_length-le}
-use lib.Seq.{drop-drop, drop-cons, get_or-drop, take-suc}
+use lib.Seq.{drop-cons}
 use Rattle.lines.specs.Lines.{lines_of, line_length}
 use Rattle.lines.proofs.Lines.{lines_nil, lines_at, line_some, line_within}
 

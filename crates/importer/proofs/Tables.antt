@@ -2,7 +2,7 @@
 -- Assumes nothing.
 use mathlib.Core.Path.{◌≡◌, refl, sym, ap, ap₂, ◌∙◌}
 use mathlib.Core.List.{List, [], ◌∷◌, ◌++◌, map, map-append, append-nil, append_assoc}
-use Prim.Native.Nat.{ℕ, zero, suc, ◌+◌, ◌≤◌, ◌<◌}
+use Prim.Native.Nat.{ℕ, suc, ◌+◌, ◌≤◌, ◌<◌}
 use native.Mathlib.Numerals.{add-one}
 use native.Mathlib.Omega.{arith}
 use lib.ListN.{length, get_or, set, take, drop, length-append, length-map, length-drop, length-set}
@@ -12,7 +12,7 @@ use Rattle.weeks.specs.Pairs.{week_of, pair_of, entry_of, over}
 use Rattle.importer.specs.declared.Settings.{Settings}
 use Rattle.importer.specs.declared.Outcome.{Outcome}
 use Rattle.importer.specs.declared.Outcome.TheVariants.{Belongs, Unresolved, Ambiguous, Refused}
-use Rattle.importer.specs.Import.{day_in, reading_in, outcome_of, case_of, value_of, entry_from, entry_count, entry_in, entries_of, Outcomes, as_outcomes, outcomes_over, outcomes_in, entries_in}
+use Rattle.importer.specs.Import.{day_in, reading_in, outcome_of, case_of, value_of, entry_from, entry_count, entry_in, entries_of, Outcomes, as_outcomes, outcomes_over}
 use Rattle.importer.specs.Steps.{Entered, Taken}
 
 -- ---- one number more over a list

@@ -4,19 +4,17 @@ use mathlib.Core.Path.{◌≡◌, refl, sym, ap, ◌∙◌}
 use mathlib.Core.Logic.{◌↔◌}
 use mathlib.Core.Bool.{true}
 use mathlib.Core.List.{List, [], ◌∷◌}
-use Prim.Native.Nat.{ℕ, zero, suc, ◌<◌}
+use Prim.Native.Nat.{ℕ, ◌<◌}
 use native.Mathlib.Omega.{arith}
-use lib.ListN.{length, get_or}
 use Rattle.laws.specs.Lists.{member, Ascending}
 use Rattle.laws.proofs.Members.{member_nil, member_head, member_tail, member_one}
 use Rattle.laws.proofs.Sort.{above_member, ascending_above}
 use Rattle.search.specs.Answers.{number_in}
 use Rattle.search.specs.declared.Answer.{Answer}
 use Rattle.search.specs.declared.Answer.TheVariants.{Found, Refused as SearchRefused}
-use Rattle.importer.specs.declared.Outcome.{Outcome}
 use Rattle.importer.specs.declared.Outcome.TheVariants.{Belongs, Unresolved, Ambiguous, Refused}
 use Rattle.importer.specs.Import.{case_of, value_of, outcome_from}
-use Rattle.importer.specs.Demands.{OneAlone, NoneAt, Several, Tells}
+use Rattle.importer.specs.Demands.{Tells}
 
 -- an answered search, by the ids listed
 module _ (answered : Type 0) (ok : answered) (n : ℕ) (id_at : ℕ → ℕ) (Similar : ℕ → Type 0) where

@@ -1,18 +1,17 @@
 -- The whole of an import: specs/Demands.antt says what. The first line that is refused decides, then the room.
 -- Assumes nothing.
 use mathlib.Core.Path.{◌≡◌, refl, sym, ap, ◌∙◌}
-use mathlib.Core.Bool.{Bool, true, false, cond, ◌&&◌}
+use mathlib.Core.Bool.{Bool, true, false, ◌&&◌}
 use mathlib.Core.List.{List, [], ◌∷◌}
-use Prim.Native.Nat.{ℕ, zero, suc, ◌+◌, ◌≤◌, ◌<◌}
+use Prim.Native.Nat.{ℕ, zero, suc, ◌+◌, ◌<◌}
 use native.Mathlib.Omega.{arith}
 use lib.ListN.{length, get_or}
 use lib.Dec.{eqb, leb}
-use borrow.Author.Tests.{le-leb, lt-leb, eq-eqb, ne_eqb}
+use borrow.Author.Tests.{le-leb, lt-leb, ne_eqb}
 use Rattle.lines.specs.Lines.{lines_of, nth_line}
 use Rattle.weeks.specs.Pairs.{pairs_of, Columns, room_of}
 use Rattle.importer.specs.declared.Settings.{Settings}
-use Rattle.importer.specs.Import.{judge_line, Verdict, judged_from, verdict_on, Outcomes, outcome_room, entries_in, fits_in, imported_of, outcomes_after, pairs_after}
-use Rattle.importer.specs.Steps.{Imports}
+use Rattle.importer.specs.Import.{judge_line, Verdict, judged_from, verdict_on, Outcomes, outcome_room, entries_in, imported_of, outcomes_after, pairs_after}
 use Rattle.importer.specs.Demands.{Whole, Wholes}
 use Rattle.importer.proofs.Judging.{judged_bad, judged_good, judged_none}
 use Rattle.importer.proofs.Whole.{import_bad, import_full, import_good}

@@ -16,7 +16,7 @@ use Rattle.weeks.specs.Pairs.{week_of, span, missing, pair_of, id_in as id_of, w
 use Rattle.importer.specs.declared.Settings.{Settings}
 use Rattle.importer.specs.declared.Outcome.{Outcome}
 use Rattle.importer.specs.declared.Outcome.TheVariants.{Belongs, Unresolved, Ambiguous, Refused}
-use Rattle.importer.specs.Import.{day_in, reading_in, typed_in, row_room, outcome_of, entries_of, judge_line, verdict_on, Outcomes, outcome_room, entries_in, imported_of, outcomes_after, pairs_after}
+use Rattle.importer.specs.Import.{day_in, reading_in, typed_in, row_room, outcome_of, entries_of, judge_line, Outcomes, outcome_room, entries_in, imported_of, outcomes_after, pairs_after}
 
 -- ---- the whole
 

@@ -1,7 +1,7 @@
 -- The import of a log: the outcome of each line, the entries of the lines that belong, the refusals of the whole, and what is written where.
 -- What a 4C frame is: specs/Frames.antt of `log_frames`; a search: specs/Answers.antt of `search`; the pairs of entries: specs/Pairs.antt of `weeks`.
 -- Assumes nothing.
-use Rattle.std.specs.Prelude.{Bool, cond, not, ◌&&◌, List, [], ◌∷◌, ◌++◌, map, ℕ, ◌+◌, min, length, get_or, drop, eqb, leb}
+use Rattle.std.specs.Prelude.{Bool, cond, not, ◌&&◌, List, [], ◌∷◌, ◌++◌, map, ℕ, ◌+◌, min, length, get_or, eqb, leb}
 use Rattle.laws.specs.Cases.{Case, case, first_case}
 use Rattle.lines.specs.Lines.{lines_of}
 use Rattle.fields.specs.Layouts.{is_frame, fields_in, name_in}

@@ -7,7 +7,7 @@ use Prim.Native.Nat.{ℕ, suc, ◌+◌, ◌*◌, ◌-◌, ◌%◌, ◌≤◌}
 use native.Mathlib.Omega.{arith}
 use borrow.Rule.Slice.PartMut.{put_mid}
 use lib.ListN.{length, take, drop, set, replicate, length-append, length-drop, length-map, drop_of_length-le}
-use lib.Seq.{drop-drop, take-append_seam, take-append-le, take_at, drop_at, length-take-le}
+use lib.Seq.{drop-drop, take-append-le, take_at, drop_at, length-take-le}
 use Rattle.index_writer.specs.Built.{id_span, lists_of, runs_of, row_words, words_from}
 use Rattle.index_writer.specs.Written.{blank, fits_in, pad_to, written_in}
 use Rattle.index_writer.proofs.Runs.{lists_runs, length_runs}

@@ -1,13 +1,13 @@
 -- Laws of sums over lists: over a sorted list, over those that pass a test, and the least sum of so many. Cited by `sizes`.
 -- Assumes nothing.
-use mathlib.Core.Path.{◌≡◌, refl, sym, ap, ap₂, ◌∙◌}
+use mathlib.Core.Path.{◌≡◌, refl, ap, ap₂, ◌∙◌}
 use mathlib.Core.Logic.{◌⊎◌, ⊎_elim}
 use mathlib.Core.Bool.{Bool, true, false, cond}
-use mathlib.Core.List.{List, [], ◌∷◌, ◌++◌, map}
+use mathlib.Core.List.{List, [], ◌∷◌, map}
 use Prim.Native.Nat.{ℕ, zero, suc, ◌+◌, ◌≤◌, ◌<◌}
 use native.Mathlib.Omega.{arith}
 use lib.ListN.{length, take}
-use Rattle.laws.specs.Lists.{member, count_of, sum_of}
+use Rattle.laws.specs.Lists.{count_of, sum_of}
 use Rattle.laws.specs.Each.{Each}
 use Rattle.laws.specs.Filter.{filter_of}
 use Rattle.laws.specs.Sort.{insert, sort_of, AllFrom, Sorted}

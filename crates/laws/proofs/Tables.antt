@@ -1,7 +1,7 @@
 -- Laws of tables made by `tabulate`: one entry changed, and how many numbers a list without repeats holds. Cited by `index_writer`, `candidates`,
 -- `sizes` and `search`.
 -- Assumes nothing.
-use mathlib.Core.Path.{◌≡◌, refl, sym, ap, ap₂, ◌∙◌}
+use mathlib.Core.Path.{◌≡◌, refl, sym, ap, ◌∙◌}
 use mathlib.Core.Logic.{◌⊎◌, ⊎_elim}
 use mathlib.Core.Bool.{Bool, true, false, cond, ◌||◌, true≢false}
 use mathlib.Core.List.{List, [], ◌∷◌, ◌++◌}
@@ -11,13 +11,13 @@ use native.Mathlib.Omega.{arith}
 use lib.ListN.{length, get_or, drop, set, length-set, length-append, length-drop}
 use lib.Seq.{ext_get_or, drop-cons, set_at, append_snoc, get_or-set_same, get_or-set_other}
 use lib.Dec.{eqb, ltb}
-use borrow.Author.Tests.{eq-eqb, ne_eqb, eqb-true, lt-ltb, le-ltb, ltb-true}
+use borrow.Author.Tests.{eq-eqb, ne_eqb, lt-ltb, le-ltb, ltb-true}
 use Rattle.laws.specs.Lists.{member, Distinct, count_of, tabulate}
 use Rattle.laws.specs.Below.{sum_below, count_below}
 use Rattle.laws.proofs.Lists.{length_tabulate, get_d_tabulate, count_none, count_ext, count_either, count_one}
 use Rattle.laws.proofs.Below.{sum_below_ext}
 use Rattle.laws.proofs.Order.{eq_or_ne, le_or_lt}
-use Rattle.laws.proofs.Tests.{same_test, or_right}
+use Rattle.laws.proofs.Tests.{or_right}
 
 -- ---- a table
 

@@ -1,6 +1,6 @@
 -- The elements of a list that pass a test. The laws are in proofs/Filter.antt.
 -- Assumes nothing.
-use Rattle.std.specs.Prelude.{Bool, cond, List, [], ◌∷◌, ℕ}
+use Rattle.std.specs.Prelude.{Bool, cond, List, [], ◌∷◌}
 
 -- the elements that pass, in their order; none of the empty list
 unfoldable pub filter_of : {A : Type 0} → (A → Bool) → List A → List A

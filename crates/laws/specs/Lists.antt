@@ -2,7 +2,7 @@
 -- the values of a function in order, the sum.
 -- Cited by most crates. The laws are in proofs/Lists.antt.
 -- Assumes nothing.
-use Rattle.std.specs.Prelude.{◌≡◌, Bool, true, false, cond, ◌||◌, List, [], ◌∷◌, ◌++◌, ℕ, zero, suc, ◌+◌, ◌<◌, eqb}
+use Rattle.std.specs.Prelude.{◌≡◌, Bool, false, cond, ◌||◌, List, [], ◌∷◌, ◌++◌, ℕ, zero, suc, ◌+◌, ◌<◌, eqb}
 
 -- whether x stands in the list; never in the empty one
 unfoldable pub member : ℕ → List ℕ → Bool

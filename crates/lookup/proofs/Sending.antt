@@ -1,7 +1,7 @@
 -- What is sent between two lines: each answer is the next piece of the output, and after the last one all of it is sent.
 -- Assumes nothing.
-use mathlib.Core.Path.{◌≡◌, refl, sym, ap, subst, ◌∙◌}
-use mathlib.Core.List.{List, []}
+use mathlib.Core.Path.{◌≡◌, sym, ap, subst, ◌∙◌}
+use mathlib.Core.List.{List}
 use Prim.Native.Nat.{ℕ, ◌+◌, ◌*◌, ◌≤◌, ◌<◌}
 use native.Mathlib.Omega.{arith}
 use lib.ListN.{length, take, drop, replicate, length-replicate}
@@ -9,13 +9,13 @@ use lib.Seq.{take-length}
 use Rattle.index.specs.Good.{Good}
 use Rattle.lines.specs.Lines.{lines_of, line_length}
 use Rattle.answers.specs.declared.Response.{Response}
-use Rattle.answers.specs.Output.{most_input, program_words, longest_answer, opened_of, open_words, refusal_line, line_text, responded_of, answers_text, output_of}
+use Rattle.answers.specs.Output.{most_input, program_words, longest_answer, opened_of, refusal_line, line_text, responded_of, answers_text, output_of}
 use Rattle.answers.proofs.Input.{opened_good}
 use Rattle.fields.specs.Fitted.{fitted_of}
 use Rattle.fields.proofs.Fitted.{length_fitted, fitted_whole}
 use Rattle.answers.proofs.Reading.{refusal_length}
 use Rattle.answers.proofs.Responding.{responded_next, output_refused}
-use Rattle.answers.proofs.Pieces.{line_most, responded_whole, next_line, piece_first, piece_rest, piece_within, pieces_end, pieces_begin, opened_few}
+use Rattle.answers.proofs.Pieces.{line_most, responded_whole, next_line, piece_first, piece_rest, piece_within, pieces_end, pieces_begin}
 use Rattle.lookup.specs.Pieces.{Next, Opened}
 
 -- a text that stands at the start of the buffer and is the next of the output

@@ -1,8 +1,8 @@
 -- The demands on many queries at once: specs/Demands.antt says what, this file shows why.
 -- Assumes nothing.
 use mathlib.Core.Path.{◌≡◌, refl, sym, ap, subst, ◌∙◌}
-use mathlib.Core.Logic.{◌⊎◌, inl, inr, ⊎_elim}
-use mathlib.Core.Bool.{Bool, true, false, cond, ◌&&◌}
+use mathlib.Core.Logic.{inl, inr, ⊎_elim}
+use mathlib.Core.Bool.{Bool, true, false, cond}
 use mathlib.Core.List.{List, ◌++◌, append_assoc}
 use Prim.Native.Nat.{ℕ, zero, suc, ◌+◌, ◌*◌, ◌≤◌, ◌<◌}
 use native.Mathlib.Nat.{eq-or-lt_of_le}
@@ -19,7 +19,7 @@ use Rattle.laws.proofs.Lists.{length_tabulate, get_d_tabulate}
 use Rattle.laws.proofs.Below.{sum_below_most}
 use Rattle.index.specs.Good.{most_names}
 use Rattle.search.specs.Answers.{number_in, rows_in, touches_in, Columns, over}
-use Rattle.queries.specs.Queries.{Outcomes, join_below, lies_in, answer_for, start_at, answer_at, columns_at, rows_before, columns_below, reached_of, row_room, query_room, reached_in, come_of}
+use Rattle.queries.specs.Queries.{Outcomes, join_below, answer_for, start_at, answer_at, columns_at, rows_before, reached_of, row_room, query_room, reached_in, come_of}
 use Rattle.queries.specs.Demands.{part_at, Query, Stands, Call, Demands}
 use Rattle.queries.proofs.Room.{query_lies, answer_beside, answer_rows}
 use Rattle.queries.proofs.Upto.{rows_none, rows_step, each, lengths}

@@ -2,25 +2,23 @@
 -- Cited by Upto.antt and Demands.antt.
 -- Assumes nothing.
 use mathlib.Core.Path.{◌≡◌, refl, sym, ap, ◌∙◌}
-use mathlib.Core.Bool.{Bool, true, false, cond, not, ◌&&◌, false≢true}
-use mathlib.Core.List.{List, [], ◌∷◌, ◌++◌, map}
-use Prim.Native.Nat.{ℕ, ◌+◌, ◌-◌, ◌≤◌, ◌<◌}
+use mathlib.Core.Bool.{Bool, true, false, cond, not, false≢true}
+use mathlib.Core.List.{List, []}
+use Prim.Native.Nat.{ℕ, ◌≤◌, ◌<◌}
 use native.Mathlib.Omega.{arith}
-use lib.ListN.{length, get_or, take, drop, length-map}
-use lib.Dec.{leb, ltb, eqb}
-use borrow.Author.Tests.{eq-eqb, eqb-true, le-ltb, ltb-true, le-leb, lt-leb}
-use Rattle.laws.specs.Cases.{first_case, all_numbers}
+use lib.ListN.{length, length-map}
+use lib.Dec.{ltb, eqb}
+use borrow.Author.Tests.{eqb-true, le-ltb, ltb-true, le-leb, lt-leb}
+use Rattle.laws.specs.Cases.{all_numbers}
 use Rattle.laws.proofs.Cases.{first_number}
-use Rattle.laws.proofs.Below.{and_left, and_right}
 use Rattle.names.specs.Features.{features_of}
-use Rattle.names.specs.Names.{name_cases}
 use Rattle.likeness.specs.Terms.{lowest_terms}
 use Rattle.words.specs.Words.{name_id, name_size}
-use Rattle.index.specs.Good.{most_names, good_of}
+use Rattle.index.specs.Good.{most_names}
 use Rattle.sizes.specs.Method.{shared_with, touches_of, answers_of}
 use Rattle.search.specs.declared.Answer.{Answer}
 use Rattle.search.specs.declared.Answer.TheVariants.{Found, Refused}
-use Rattle.search.specs.Answers.{number_in, rows_in, question_cases, refusal_cases, refusal_of, search_good_of, search_of, given_by, Columns, least_for, columns_of}
+use Rattle.search.specs.Answers.{number_in, rows_in, refusal_cases, refusal_of, search_good_of, search_of, given_by, Columns, least_for, columns_of}
 use Rattle.search.proofs.Outcomes.{refused_gives, admitted}
 use Rattle.rows.proofs.Answers.{answers_few, outcome}
 use Rattle.queries.specs.Queries.{lies_in, part_of, answer_for, rows_given}

@@ -1,9 +1,9 @@
 -- The tables once all lines are read, and what a build answers by its tests.
 -- Assumes nothing.
-use mathlib.Core.Path.{◌≡◌, refl, sym, ap, ap₂, subst, ◌∙◌}
-use mathlib.Core.Bool.{Bool, true, false}
+use mathlib.Core.Path.{◌≡◌, sym, ap, ap₂, subst, ◌∙◌}
+use mathlib.Core.Bool.{true, false}
 use mathlib.Core.List.{List, map}
-use Prim.Native.Nat.{ℕ, ◌≤◌, ◌<◌}
+use Prim.Native.Nat.{ℕ, ◌≤◌}
 use native.Mathlib.Nat.{min-le_right}
 use native.Mathlib.Omega.{arith}
 use borrow.Author.Tests.{eq-eqb, ne_eqb}
@@ -16,7 +16,6 @@ use Rattle.index_writer.proofs.Keys.{keys_triples}
 use Rattle.index_writer.proofs.Built.{few_postings}
 use Rattle.ordering.specs.Order.{sizes_of, ordered_of}
 use Rattle.ordering.proofs.Ordered.{sizes_keys, ordered_triples, ordered_keyed}
-use Rattle.register.specs.declared.Built.{Built}
 use Rattle.register.specs.Steps.{Tables}
 use Rattle.register.specs.Build.{taken_of, entries_of, room_for, built_of, words_after}
 

@@ -1,14 +1,13 @@
 -- What a build promises: accepted words are good and hold the names of the register, each with its own features; refused words are not good.
 -- Assumes nothing.
-use mathlib.Core.Path.{◌≡◌, refl, sym, ap, subst, ◌∙◌}
-use mathlib.Core.Bool.{Bool, true, false, cond}
-use mathlib.Core.Logic.{◌⊎◌, ⊎_elim}
+use mathlib.Core.Path.{◌≡◌, sym, ap, subst, ◌∙◌}
+use mathlib.Core.Bool.{false}
+use mathlib.Core.Logic.{⊎_elim}
 use mathlib.Core.List.{List, [], ◌∷◌, ◌++◌}
-use Prim.Native.Nat.{ℕ, ◌+◌, ◌-◌, ◌<◌}
+use Prim.Native.Nat.{ℕ, ◌-◌}
 use native.Mathlib.Omega.{arith}
-use borrow.Author.Tests.{eq-eqb, ne_eqb, eqb-false}
-use lib.ListN.{length, get_or, replicate}
-use lib.Dec.{eqb}
+use borrow.Author.Tests.{eq-eqb, ne_eqb}
+use lib.ListN.{length, replicate}
 use Rattle.laws.proofs.Order.{eq_or_ne}
 use Rattle.index.specs.Good.{good_of, Good}
 use Rattle.index_writer.specs.Built.{Entry, Fit, words_of}
@@ -16,7 +15,7 @@ use Rattle.index_writer.proofs.Built.{fit_nil, fit_snoc, built_good}
 use Rattle.index.proofs.Laws.{refused_not_good}
 use Rattle.lines.specs.Lines.{lines_of}
 use Rattle.index_writer.specs.Written.{blank, pad_to}
-use Rattle.register.specs.Build.{next_id, judge_line, entry_of, Taken, take_lines, taken_of, entries_of, room_for, built_of, words_after}
+use Rattle.register.specs.Build.{next_id, judge_line, entry_of, Taken, take_lines, taken_of, entries_of, built_of, words_after}
 use Rattle.register.proofs.Judging.{good_line}
 use Rattle.register.proofs.Taking.{next_last, take_none, take_bad, take_good, entry_fit}
 

@@ -17,13 +17,13 @@ use Rattle.fields.proofs.Laws.{read_fits}
 use Rattle.fields.proofs.Layouts.{field_below, length_name, read_good}
 use Rattle.frames.specs.Frames.{name_frame}
 use Rattle.index.specs.Good.{most_names, most_postings, largest_id}
-use Rattle.index_writer.specs.Built.{Entry, no_entry, EntryFit, Fit, word_of}
+use Rattle.index_writer.specs.Built.{Entry, no_entry, EntryFit, word_of}
 use Rattle.index_writer.specs.Keys.{place_span, keys_of, keys_from, all_keys}
 use Rattle.index_writer.proofs.Keys.{keys_append, length_keys, keys_triples}
 use Rattle.index_writer.proofs.Entries.{length_entries}
 use Rattle.index_writer.proofs.Built.{fit_nil, fit_snoc, name_fit}
 use Rattle.lines.specs.Lines.{lines_of, line_length}
-use Rattle.register.specs.Build.{id_in, name_of, next_from, next_id, judge_line, entry_of, Taken, take_lines, taken_of, entries_of}
+use Rattle.register.specs.Build.{id_in, name_of, next_from, next_id, judge_line, entry_of, Taken, take_lines, taken_of}
 use Rattle.register.specs.Steps.{KeysFit, Tables, Read}
 use Rattle.lines.proofs.Lines.{lines_nil, lines_at, line_some}
 use Rattle.register.proofs.Judging.{good_line}

@@ -1,7 +1,7 @@
 -- Building an index from a register: the judging of a line, the names of all lines, and what a build answers and leaves in the words.
 -- The order in which a line is judged is `line_cases` alone.
 -- Assumes nothing.
-use Rattle.std.specs.Prelude.{Bool, cond, not, List, [], ◌∷◌, ◌++◌, map, ℕ, ◌+◌, ◌-◌, ◌*◌, length, get_or, take, replicate, eqb, leb, ltb}
+use Rattle.std.specs.Prelude.{Bool, cond, not, List, [], ◌∷◌, ◌++◌, map, ℕ, ◌+◌, ◌*◌, length, get_or, take, replicate, eqb, leb, ltb}
 use Rattle.laws.specs.Cases.{Case, case, first_case}
 use Rattle.names.specs.Names.{name_cases}
 use Rattle.names.specs.Features.{features_of}

@@ -1,23 +1,21 @@
 -- The lines of an output: specs/Demands.antt says what. Its lines are those that the definition lists, and the last of them alone ends it.
 -- Assumes nothing.
-use mathlib.Core.Path.{◌≡◌, refl, sym, ap, ap₂, subst, ◌∙◌}
+use mathlib.Core.Path.{◌≡◌, refl, sym, ap, ◌∙◌}
 use mathlib.Core.Logic.{◌↔◌, ⊎_elim}
 use mathlib.Core.Bool.{Bool, true, false, cond, ◌||◌}
 use mathlib.Core.List.{List, [], ◌∷◌, ◌++◌, map}
-use Prim.Native.Nat.{ℕ, zero, suc, ◌+◌, ◌-◌, ◌*◌, ◌≤◌, ◌<◌}
+use Prim.Native.Nat.{ℕ, ◌-◌, ◌≤◌, ◌<◌}
 use native.Mathlib.Omega.{arith}
-use lib.ListN.{length, get_or, take, replicate, length-map, length-replicate}
+use lib.ListN.{length, get_or, take, replicate, length-replicate}
 use lib.Dec.{eqb, leb, ltb}
-use borrow.Author.Tests.{lt-ltb, le-ltb, eq-eqb, ne_eqb, leb-true, leb-false, le-leb}
+use borrow.Author.Tests.{lt-ltb, le-ltb, eq-eqb, ne_eqb, leb-true, le-leb}
 use Rattle.laws.specs.Lists.{count_of}
 use Rattle.laws.specs.Each.{Each}
 use Rattle.laws.proofs.Lists.{count_append}
 use Rattle.laws.proofs.Tests.{or_right}
-use Rattle.laws.proofs.Members.{or_cases, each_nil, each_cons, each_append}
-use Rattle.laws.proofs.Order.{eq_or_ne}
+use Rattle.laws.proofs.Members.{or_cases, each_nil, each_cons}
 use Rattle.hex_digits.specs.Lines.{digit_of, place_in, value_of as digitValue, hex_of, hex_line, bytes_of}
 use Rattle.hex_digits.proofs.Lines.{last_feed}
-use Rattle.fields.specs.declared.Layout.{Layout}
 use Rattle.fields.specs.declared.Reading.{Reading}
 use Rattle.fields.specs.Layouts.{is_frame, name_in, line_of, read_of, accepted_as, refused_with}
 use Rattle.fields.proofs.Layouts.{frame_other, frame_well_formed}
@@ -25,10 +23,9 @@ use Rattle.fields.proofs.Laws.{frame_line}
 use Rattle.fields.proofs.Fitted.{one_line}
 use Rattle.frames.specs.Frames.{query_frame}
 use Rattle.log_frames.specs.Frames.{outcome_frame, pair_frame, import_end_frame, import_refusal_frame}
-use Rattle.lines.specs.Lines.{lines_of, joined}
+use Rattle.lines.specs.Lines.{lines_of}
 use Rattle.lines.proofs.Cut.{Line, Ended, lines_joined, ended_behind, ended_each, broken_fewer}
 use Rattle.weeks.specs.Pairs.{pairs_of}
-use Rattle.register.specs.declared.Built.{Built}
 use Rattle.register.specs.Build.{built_of}
 use Rattle.answers.specs.Output.{register_of}
 use Rattle.statements.proofs.Building.{builds}
@@ -37,7 +34,7 @@ use Rattle.importer.specs.declared.Outcome.{Outcome}
 use Rattle.importer.specs.Import.{case_of, value_of, most_lines, outcomes_in, entries_in, imported_of}
 use Rattle.reports.specs.Report.{most_input, index_words, settings_line, log_of, index_of, settled, settings_in, outcome_line, pair_line, end_line, refusal_line, whole_part, register_part, settings_part, log_part, answer_lines, import_lines, settled_lines, report_lines, report_of}
 use Rattle.reports.proofs.Most.{import_fits}
-use Rattle.reports.specs.Demands.{Registered, Settled, settings_of, import_of, ends_report, Report, Reports}
+use Rattle.reports.specs.Demands.{Registered, Settled, settings_of, import_of, ends_report, Reports}
 
 -- ---- which lines end an output
 

@@ -1,13 +1,11 @@
 -- The parts of an input, judged one after the other: the first that is refused is all of the output.
 -- Assumes nothing.
 use mathlib.Core.Path.{◌≡◌, refl, sym, ap, ap₂, ◌∙◌}
-use mathlib.Core.Bool.{Bool, true, false, cond}
-use mathlib.Core.List.{List, [], ◌∷◌, ◌++◌, append-nil}
+use mathlib.Core.List.{List, [], ◌∷◌, append-nil}
 use Prim.Native.Nat.{ℕ, ◌+◌, ◌-◌, ◌≤◌, ◌<◌}
 use native.Mathlib.Omega.{arith}
 use lib.ListN.{length, get_or, take, drop, replicate, length-drop, length-replicate}
 use lib.Seq.{drop-drop, take_all}
-use lib.Dec.{eqb, ltb}
 use borrow.Author.Tests.{lt-ltb, le-ltb, eq-eqb, ne_eqb}
 use Rattle.lines.specs.Lines.{line_length, joined}
 use Rattle.fields.specs.declared.Reading.{Reading}
@@ -18,7 +16,7 @@ use Rattle.register.specs.Build.{built_of, words_after}
 use Rattle.answers.specs.Output.{register_end, register_of}
 use Rattle.importer.specs.declared.Settings.{Settings}
 use Rattle.importer.specs.Import.{settings}
-use Rattle.reports.specs.Report.{most_input, index_words, after_register, settings_line, log_of, index_of, settled, settings_in, refusal_line, whole_part, register_part, settings_part, import_lines, settled_lines, report_lines, report_of}
+use Rattle.reports.specs.Report.{most_input, index_words, settings_line, log_of, index_of, settled, settings_in, refusal_line, whole_part, register_part, settings_part, import_lines, settled_lines, report_lines, report_of}
 
 alone : (l : List ℕ) → l ≡ joined (l ∷ [])
 alone l = unfold joined in (sym (append-nil l))

@@ -2,7 +2,7 @@
 -- Assumes nothing.
 use mathlib.Core.Path.{◌≡◌, refl, sym, ap, ap₂, ◌∙◌}
 use mathlib.Core.List.{List, [], ◌∷◌, ◌++◌}
-use Prim.Native.Nat.{ℕ, ◌+◌, ◌-◌, ◌*◌, ◌/◌, ◌%◌, ◌^◌, ◌≤◌}
+use Prim.Native.Nat.{ℕ, ◌+◌, ◌-◌, ◌*◌, ◌%◌, ◌≤◌}
 use native.Mathlib.Omega.{arith}
 use lib.ListN.{length, get_or, take, drop, length-append, length-drop}
 use lib.Seq.{drop_at, length-take-le}
@@ -13,7 +13,6 @@ use Rattle.lines.proofs.Evenly.{length_texts}
 use Rattle.hex_digits.specs.Lines.{hex_of, hex_line}
 use Rattle.hex_digits.specs.Numbers.{bytes_for}
 use Rattle.fields.specs.Layouts.{field_bytes, name_bytes, line_of, written_of, out_of}
-use Rattle.fields.specs.declared.Written.{Written}
 use Rattle.fields.specs.Fitted.{fitting_of, fitted_of}
 use Rattle.fields.proofs.Fitted.{fitted_all, written_plain, out_plain, out_exact, put_behind}
 use Rattle.log_frames.specs.Frames.{outcome_frame, pair_frame, import_end_frame, import_refusal_frame, outcome_line_length, pair_line_length, import_end_line_length, import_refusal_line_length}

@@ -2,14 +2,13 @@
 -- Running.antt and Outcomes.antt, and by `statements`.
 -- Assumes nothing.
 use mathlib.Core.Path.{◌≡◌, refl, sym, ap, ◌∙◌}
-use mathlib.Core.Bool.{Bool, true, false, cond, not}
+use mathlib.Core.Bool.{true, false, not}
 use mathlib.Core.List.{List, [], ◌∷◌}
-use Prim.Native.Nat.{ℕ, zero, suc, ◌+◌, ◌-◌}
-use native.Mathlib.Nat.{add-sub_cancel_left}
+use Prim.Native.Nat.{ℕ}
 use native.Mathlib.Omega.{arith}
-use lib.ListN.{length, take, drop}
-use lib.Dec.{ltb, eqb}
-use borrow.Author.Tests.{eq-eqb, ne_eqb}
+use lib.ListN.{length}
+use lib.Dec.{ltb}
+use borrow.Author.Tests.{ne_eqb}
 use Rattle.laws.specs.Cases.{Case, case, first_case, all_numbers, all_numbered}
 use Rattle.laws.proofs.Cases.{not_false, first_here, first_next, first_passed, first_front, first_behind, first_split}
 use Rattle.names.specs.Names.{name_cases, judge_of}

@@ -1,6 +1,6 @@
 -- What a search answers: the order of refusals, the rows, and the number and values of each case.
 -- Assumes nothing.
-use Rattle.std.specs.Prelude.{◌≡◌, Bool, cond, not, List, [], ◌∷◌, ◌++◌, map, ℕ, min, length, drop, ltb, eqb}
+use Rattle.std.specs.Prelude.{◌≡◌, cond, not, List, [], ◌∷◌, ◌++◌, map, ℕ, min, length, drop, ltb, eqb}
 use Rattle.laws.specs.Cases.{Case, case, first_case}
 use Rattle.names.specs.Names.{name_cases}
 use Rattle.names.specs.Features.{features_of}

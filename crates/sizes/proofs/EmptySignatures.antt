@@ -1,18 +1,18 @@
 -- A size at which fewer lists than the least count have ids: its signature lists are empty, so it costs nothing and has no answer.
 -- Cited by the proof of `one_size`.
 -- Assumes nothing.
-use mathlib.Core.Path.{◌≡◌, refl, sym, ap, ap₂, ◌∙◌}
+use mathlib.Core.Path.{◌≡◌, refl, sym, ap, ◌∙◌}
 use mathlib.Core.Logic.{⊎_elim}
-use mathlib.Core.Bool.{Bool, true, false, cond, ◌&&◌}
+use mathlib.Core.Bool.{Bool, false, cond, ◌&&◌}
 use mathlib.Core.List.{List, [], ◌∷◌, map}
-use Prim.Native.Nat.{ℕ, zero, suc, ◌+◌, ◌-◌, ◌*◌, ◌/◌, ◌%◌, ◌≤◌, ◌<◌}
+use Prim.Native.Nat.{ℕ, zero, suc, ◌+◌, ◌%◌, ◌≤◌, ◌<◌}
 use native.Mathlib.Nat.{eq-or-lt_of_le}
 use native.Mathlib.Omega.{arith}
 use lib.ListN.{length, get_or, take}
 use lib.Dec.{ltb, leb, eqb}
 use borrow.Author.Tests.{lt-ltb, le-ltb, le-leb, ltb-true}
 use Rattle.laws.specs.Lists.{Ascending, tabulate, count_of, sum_of}
-use Rattle.laws.specs.Below.{sum_below, count_below}
+use Rattle.laws.specs.Below.{count_below}
 use Rattle.laws.specs.Sort.{sort_of}
 use Rattle.laws.proofs.Lists.{length_nil, length_tabulate, get_d_tabulate, tabulate_ext}
 use Rattle.laws.proofs.Below.{sum_below_ext, sum_below_most, and_false_right}

@@ -1,12 +1,12 @@
 -- The largest size: every name's is below `sizes_below`, so from there on a size has no least count, costs no touch and has no answer.
 -- Assumes nothing.
-use mathlib.Core.Path.{◌≡◌, refl, sym, ap, ap₂, ◌∙◌}
+use mathlib.Core.Path.{◌≡◌, refl, sym, ap, ◌∙◌}
 use mathlib.Core.Logic.{◌⊎◌, inl, inr, ⊎_elim}
 use mathlib.Core.Bool.{Bool, true, false, cond, ◌&&◌}
 use mathlib.Core.List.{List, ◌++◌}
 use Prim.Native.Nat.{ℕ, zero, suc, ◌+◌, ◌-◌, ◌≤◌, ◌<◌}
 use native.Mathlib.Omega.{arith}
-use lib.ListN.{length, get_or, drop, replicate, length-replicate, get_or-replicate, get_or-append}
+use lib.ListN.{get_or, drop, replicate, length-replicate, get_or-replicate, get_or-append}
 use lib.Seq.{drop_at, get_or-drop}
 use lib.Dec.{eqb, leb, ltb}
 use borrow.Author.Tests.{eqb-true, eq-eqb, ne_eqb, lt-ltb, le-ltb}
@@ -19,8 +19,7 @@ use Rattle.laws.proofs.Lists.{length_tabulate, get_d_tabulate, tabulate_ext}
 use Rattle.laws.proofs.Tables.{table_over, length_over}
 use Rattle.laws.proofs.Order.{le_or_lt}
 use Rattle.laws.proofs.Tests.{test_fails}
-use Rattle.names.specs.Features.{most_features}
-use Rattle.words.specs.Words.{name_count, row_count, name_id, name_size, row_size, row_length, row_place, posting, list_at}
+use Rattle.words.specs.Words.{name_count, row_count, name_id, name_size, row_size, row_place, posting, list_at}
 use Rattle.index.specs.Good.{most_names, is_name, lists_with, Good}
 use Rattle.index.proofs.Facts.{Before, good_facts}
 use Rattle.index.proofs.Laws.{good_name_within, good_ids_apart, row_named}

@@ -1,23 +1,17 @@
 -- What the search lists, and what it costs: the method joined to the measures, over a good index. Restated in `statements`.
 -- Assumes nothing.
 use mathlib.Core.Path.{◌≡◌, refl, sym, ap, ap₂, ◌∙◌}
-use mathlib.Core.Logic.{⊎_elim}
 use mathlib.Core.Bool.{Bool, true, false, cond, ◌&&◌}
-use mathlib.Core.List.{List, [], ◌∷◌, ◌++◌, map}
-use Prim.Native.Nat.{ℕ, zero, suc, ◌+◌, ◌-◌, ◌*◌, ◌%◌, ◌≤◌, ◌<◌, min}
+use mathlib.Core.List.{List, [], ◌∷◌, map}
+use Prim.Native.Nat.{ℕ, ◌+◌, ◌%◌, ◌≤◌, ◌<◌}
 use native.Mathlib.Omega.{arith}
-use lib.ListN.{length, get_or, take, length-map}
-use lib.Dec.{leb, ltb, eqb}
-use borrow.Author.Tests.{le-leb, lt-leb, leb-true, leb-false, eq-eqb, eqb-true}
+use lib.ListN.{length, length-map}
 use Rattle.laws.specs.Lists.{member, Distinct, count_of}
 use Rattle.laws.specs.Each.{Each}
-use Rattle.laws.specs.Below.{sum_below, count_below}
 use Rattle.laws.specs.Sort.{sort_of}
-use Rattle.laws.proofs.Lists.{count_le, count_ext}
+use Rattle.laws.proofs.Lists.{count_le}
 use Rattle.laws.proofs.Images.{count_map}
-use Rattle.laws.proofs.Members.{each_member}
 use Rattle.laws.proofs.Sort.{count_sort, length_sort}
-use Rattle.laws.proofs.Tests.{same_test}
 use Rattle.likeness.specs.Measures.{good_measure, good_threshold, is_similar}
 use Rattle.likeness.specs.Sizes.{is_searched}
 use Rattle.likeness.specs.Least.{least_count}
@@ -28,9 +22,9 @@ use Rattle.index.specs.Good.{Good}
 use Rattle.index.proofs.Laws.{good_name_within}
 use Rattle.lists.specs.Lists.{list_in}
 use Rattle.lists.proofs.Laws.{held_le_size}
-use Rattle.candidates.specs.Method.{held_by, signatures, remains, later_count}
+use Rattle.candidates.specs.Method.{held_by, remains, later_count}
 use Rattle.candidates.proofs.Candidates.{remains_end}
-use Rattle.sizes.specs.Method.{ordered_for, lists_for, shared_with, listed, answers_of}
+use Rattle.sizes.specs.Method.{ordered_for, lists_for, shared_with, listed}
 
 -- ---- the order of the query's features changes no count
 

@@ -2,31 +2,27 @@
 -- to. Cited by the proof of `one_size`, by EmptySignatures.antt and Answering.antt, and by `search`.
 -- Assumes nothing.
 use mathlib.Core.Path.{◌≡◌, refl, sym, ap, ap₂, ◌∙◌}
-use mathlib.Core.Logic.{⊎_elim}
 use mathlib.Core.Bool.{Bool, true, false, cond, ◌&&◌, true≢false}
-use mathlib.Core.List.{List, [], ◌∷◌, ◌++◌}
-use Prim.Native.Nat.{ℕ, zero, suc, ◌+◌, ◌-◌, ◌*◌, ◌/◌, ◌%◌, ◌≤◌, ◌<◌}
+use mathlib.Core.List.{List, [], ◌∷◌}
+use Prim.Native.Nat.{ℕ, zero, suc, ◌+◌, ◌-◌, ◌/◌, ◌%◌, ◌≤◌, ◌<◌}
 use native.Mathlib.Omega.{arith}
 use lib.ListN.{length, get_or, take, drop}
 use lib.Seq.{ext_get_or}
 use lib.Dec.{eqb, ltb}
-use borrow.Author.Tests.{lt-ltb, le-ltb, le-leb, ltb-true, eq-eqb, eqb-true}
+use borrow.Author.Tests.{lt-ltb, le-ltb, le-leb, eq-eqb}
 use Rattle.laws.specs.Lists.{member, Ascending, tabulate, count_of}
-use Rattle.laws.specs.Below.{sum_below, count_below}
-use Rattle.laws.specs.Each.{Each}
+use Rattle.laws.specs.Below.{count_below}
 use Rattle.laws.specs.Sort.{sort_of}
 use Rattle.laws.proofs.Lists.{length_tabulate, get_d_tabulate}
 use Rattle.laws.proofs.Members.{member_head, member_tail}
 use Rattle.laws.proofs.Below.{sum_below_ext, sum_below_step, count_below_most}
 use Rattle.laws.proofs.Tests.{same_test, and_parts}
 use Rattle.laws.proofs.Below.{and_both}
-use Rattle.laws.proofs.Order.{le_or_lt}
 use Rattle.laws.proofs.Sort.{ascending_sorted, ascending_distinct, sort_sorted}
 use Rattle.laws.proofs.Images.{ascending_tabulate}
 use Rattle.words.specs.Words.{name_count, name_id, name_size}
 use Rattle.index.specs.Good.{Good, most_names, ids_in}
 use Rattle.index.proofs.Laws.{good_names_most, good_ids, good_ids_apart}
-use Rattle.lists.specs.Part.{Span, cut}
 use Rattle.lists.specs.Lists.{list_in, span_in}
 use Rattle.lists.proofs.Laws.{good_named, good_ascending, span_words}
 use Rattle.lists.proofs.Spans.{span_within, span_count}

@@ -3,15 +3,15 @@
 -- Assumes nothing.
 use mathlib.Core.Path.{◌≡◌, refl, sym, ap, ap₂, ◌∙◌}
 use mathlib.Core.Logic.{◌⊎◌, ⊎_elim}
-use mathlib.Core.Bool.{Bool, true, false, cond, ◌&&◌, ◌||◌, true≢false}
-use mathlib.Core.List.{List, [], ◌∷◌, ◌++◌, map}
+use mathlib.Core.Bool.{Bool, true, false, cond, ◌&&◌}
+use mathlib.Core.List.{List, [], ◌∷◌, map}
 use Prim.Native.Nat.{ℕ, zero, suc, ◌+◌, ◌-◌, ◌*◌, ◌/◌, ◌%◌, ◌≤◌, ◌<◌}
 use native.Mathlib.Nat.{mul-le-mul, mul-le-mul_left, mul-le-mul_right, mul_comm, mul-one, mul-zero, suc-mul, add-mul}
 use native.Mathlib.Omega.{arith}
-use lib.ListN.{length, get_or, take}
+use lib.ListN.{length, take}
 use lib.Seq.{length-take-le}
-use lib.Dec.{ltb, eqb}
-use borrow.Author.Tests.{le-leb, lt-leb, leb-true, leb-false, eq-eqb, ne_eqb, eqb-true}
+use lib.Dec.{eqb}
+use borrow.Author.Tests.{eq-eqb, ne_eqb}
 use Rattle.laws.specs.Lists.{member, Distinct, count_of, sum_of}
 use Rattle.laws.specs.Each.{Each}
 use Rattle.laws.specs.Below.{sum_below, count_below}
@@ -20,16 +20,16 @@ use Rattle.laws.specs.Sort.{sort_of}
 use Rattle.laws.proofs.Members.{member_head, member_tail, member_map_place, each_member, each_members}
 use Rattle.laws.proofs.Images.{count_map}
 use Rattle.laws.proofs.Sums.{sum_ext, sum_map, sum_filter, sum_sort, least_sum}
-use Rattle.laws.proofs.Below.{and_left, and_right, and_both, and_false_right, count_below_mono, count_below_more, count_below_most, sum_below_le, sum_below_most, sum_below_swap, sum_below_times, sum_below_ext}
+use Rattle.laws.proofs.Below.{and_left, and_both, and_false_right, count_below_mono, count_below_more, sum_below_le, sum_below_most, sum_below_swap, sum_below_times}
 use Rattle.laws.proofs.Order.{eq_or_ne}
 use Rattle.laws.proofs.Sort.{ascending_distinct, member_sort, sorted_sort}
-use Rattle.laws.proofs.Tests.{and_parts, test_fails}
+use Rattle.laws.proofs.Tests.{and_parts}
 use Rattle.likeness.specs.Measures.{good_measure, good_threshold}
 use Rattle.likeness.specs.Sizes.{is_searched}
 use Rattle.likeness.specs.Least.{least_count}
 use Rattle.likeness.proofs.Least.{least_pos, least_within}
 use Rattle.words.specs.Words.{name_count, name_id, name_size, feature_span, key_of}
-use Rattle.index.specs.Good.{Good, most_names, most_postings}
+use Rattle.index.specs.Good.{Good, most_postings}
 use Rattle.index.proofs.Laws.{good_names_most, good_name_within}
 use Rattle.lists.specs.Lists.{list_in}
 use Rattle.lists.proofs.Laws.{good_ascending, good_named}

@@ -2,9 +2,9 @@
 -- Assumes nothing.
 use mathlib.Core.Path.{◌≡◌, refl, ap}
 use mathlib.Core.List.{List, [], ◌∷◌, map}
-use Prim.Native.Nat.{ℕ, ◌≤◌}
+use Prim.Native.Nat.{ℕ}
 use native.Mathlib.Omega.{arith}
-use lib.ListN.{length, length-map}
+use lib.ListN.{length-map}
 use Rattle.laws.specs.Each.{Each}
 use Rattle.laws.proofs.Members.{member_place, each_nil, each_cons, each_first, each_rest}
 use Rattle.names.specs.Features.{features_by, gram_length, characters}
@@ -12,7 +12,7 @@ use Rattle.names.proofs.Laws.{length_features_by, distinct_features_by, feature_
 use Rattle.index_writer.specs.Built.{Entry, EntryFit, Fit}
 use Rattle.index_writer.proofs.Built.{built_name_count, built_id, built_size, built_good, built_features}
 use Rattle.statements.specs.Demands.{with_words, Holds}
-use Rattle.statements.specs.Former.{of_entries, index_of, Indexed, IdName, LetIn, entry_then, Register, Former}
+use Rattle.statements.specs.Former.{of_entries, index_of, Indexed, IdName, LetIn, entry_then, Former}
 use Rattle.statements.proofs.Listing.{listings}
 
 -- ---- the index of any names with their features

@@ -2,13 +2,12 @@
 -- Assumes nothing.
 use mathlib.Core.Path.{◌≡◌, refl, sym, ◌∙◌}
 use mathlib.Core.Bool.{true}
-use Prim.Native.Nat.{ℕ, ◌≤◌, ◌<◌}
+use Prim.Native.Nat.{ℕ, ◌≤◌}
 use native.Mathlib.Nat.{le_antisymm, lt_of_not-le}
 use native.Mathlib.Decide.{dec_le}
 use borrow.Author.Tests.{le-leb, leb-true}
 use Rattle.laws.proofs.Tests.{test_failed}
-use Rattle.likeness.specs.Measures.{Measure, dice, jaccard, cosine, overlap, other, measure_of, good_measure, good_threshold, reaches, is_similar}
-use Rattle.likeness.specs.Least.{least_count}
+use Rattle.likeness.specs.Measures.{Measure, dice, jaccard, cosine, overlap, other, measure_of, good_measure, reaches}
 use Rattle.likeness.proofs.Measures.{similar_reaches}
 use Rattle.likeness.proofs.Least.{least_pos, least_similar, least_below}
 use Rattle.statements.specs.Leaflet.{Line, First, CosineLeast, EveryLeast, OnlyLeast}

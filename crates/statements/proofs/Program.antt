@@ -1,15 +1,13 @@
 -- The program: specs/Program.antt says what, this file cites why.
 -- Assumes nothing.
 use mathlib.Core.Path.{◌≡◌, refl, sym, ap, ap₂, ◌∙◌}
-use mathlib.Core.Bool.{Bool, true, false}
+use mathlib.Core.Bool.{true}
 use mathlib.Core.List.{List, [], ◌∷◌, ◌++◌, map}
 use Prim.Native.Nat.{ℕ, ◌≤◌, ◌<◌}
 use native.Mathlib.Omega.{arith}
 use lib.ListN.{length, get_or, drop, replicate, length-replicate, length-map, get_or-append}
-use lib.Dec.{ltb}
 use borrow.Author.Tests.{lt-ltb, le-ltb}
 use Rattle.laws.specs.Lists.{count_of, tabulate}
-use Rattle.laws.specs.Cases.{first_case}
 use Rattle.laws.proofs.Lists.{tabulate_ext}
 use Rattle.names.specs.Features.{features_of}
 use Rattle.likeness.specs.Terms.{lowest_terms}
@@ -24,12 +22,11 @@ use Rattle.search.specs.Answers.{number_in, rows_in, touches_in, search_of, give
 use Rattle.search.specs.declared.Answer.{Answer}
 use Rattle.search.specs.declared.Answer.TheVariants.{Found, Refused}
 use Rattle.search.proofs.Outcomes.{given_found, answered}
-use Rattle.answers.specs.declared.Opened.{Opened}
-use Rattle.answers.specs.Output.{most_input, register_end, register_of, queries_of, program_words, rows_lent, opened_of, open_words, query_in, measure_in, p_in, q_in, allowance_in, search_for, places_for, columns_for, row_line, row_text, end_line, refusal_line, answer_of, ends_answer, answer_lines, answers_text, output_of}
+use Rattle.answers.specs.Output.{most_input, register_of, queries_of, program_words, rows_lent, opened_of, open_words, query_in, measure_in, p_in, q_in, allowance_in, search_for, places_for, columns_for, row_line, row_text, end_line, refusal_line, ends_answer, answer_lines, answers_text, output_of}
 use Rattle.answers.proofs.Responding.{output_opened, output_refused}
 use Rattle.answers.proofs.Ends.{lines_query, lines_stray, lines_once, lines_all, lines_count, output_broken}
-use Rattle.statements.specs.Demands.{columns, answer, number, steps, found, after, refusals, Answered, touches_with, Demands, Accepted, of_built}
-use Rattle.statements.specs.Program.{index_words, Registered, asks, asked, number_to, rows_to, row_to, lines_to, AnswerTo, Program, Programs}
+use Rattle.statements.specs.Demands.{columns, answer, number, steps, found, Answered, touches_with, Demands}
+use Rattle.statements.specs.Program.{index_words, Registered, asks, asked, number_to, rows_to, row_to, lines_to, Programs}
 use Rattle.statements.proofs.Demands.{searches}
 use Rattle.statements.proofs.Building.{end_to_end}
 

@@ -16,7 +16,7 @@ use Rattle.words.specs.Words.{name_count, posting_count, total}
 use Rattle.index.specs.Good.{most_names, largest_id, good_of, Good}
 use Rattle.index_writer.specs.Contents.{entries_in}
 use Rattle.changes.specs.Names.{with_entry, without_id}
-use Rattle.upkeep.specs.Upkeep.{is_live, entry_for, index_with, add_cases, added_of, words_added, index_without, withdraw_cases, withdrawn_of, words_withdrawn}
+use Rattle.upkeep.specs.Upkeep.{is_live, entry_for, index_with, add_cases, added_of, words_added, withdraw_cases, withdrawn_of, words_withdrawn}
 use Rattle.lines.specs.Lines.{lines_of}
 use Rattle.lists.specs.Lists.{features_in}
 use Rattle.register.specs.Build.{id_in, name_of, words_after}

@@ -2,7 +2,7 @@
 // told, and never taken for an end. Used by the programs, over standard input and output.
 #![tactic(auto)]
 
-ghost use Rattle.std.specs.Prelude.{◌≡◌, ◌≤◌, ◌<◌, true, length, take, IsSome};
+ghost use Rattle.std.specs.Prelude.{◌≡◌, ◌≤◌, ◌<◌, true, false, length, take, IsSome};
 ghost use Rattle.std.specs.Io.KnownBytes.{Appends, Consumes, IsAtEnd};
 
 use std::io::{Error, ErrorKind, Read, Write};
@@ -28,6 +28,7 @@ pub fn read_input<R: Read>(reader: &mut R, space: &mut [u8]) -> Input
     ensures within { result.len ≤ length space.new }
     ensures bytes { result.whole ≡ true → Consumes (R.remaining reader.old) (R.remaining reader.new) (take result.len space.new) }
     ensures end { result.whole ≡ true → result.len < length space.new → IsAtEnd (R.remaining reader.new) }
+    ensures failed { result.whole ≡ false → IsSome result.failure }
 {
     let mut done: usize = 0;
     let mut patience = PATIENCE;

@@ -1,7 +1,7 @@
 -- The answers of the layers as the flat structs that C can take: every value under its name, 0 where a refusal has none.
 -- Cited by every contract of the crate. What the answers are is in the specs of register, index, search, queries, importer, fields, frames and log_frames.
 -- Assumes nothing.
-use Rattle.std.specs.Prelude.{ℕ, get_or}
+use Rattle.std.specs.Prelude.{get_or}
 use Rattle.fields.specs.declared.Reading.{Reading}
 use Rattle.fields.specs.declared.Written.{Written}
 use Rattle.lists.specs.Part.{Span}

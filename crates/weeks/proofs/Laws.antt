@@ -1,22 +1,21 @@
 -- Laws of pairs over entries in any order: exactly those with an entry, ascending, once each; what one entry more makes of them, of sums and of counts.
 -- Assumes nothing.
 use mathlib.Core.Path.{◌≡◌, refl, sym, ap, ap₂, ◌∙◌}
-use mathlib.Core.Logic.{◌⊎◌, ⊎_elim}
-use mathlib.Core.Bool.{Bool, true, false, cond, ◌&&◌, ◌||◌, not, true≢false}
+use mathlib.Core.Logic.{⊎_elim}
+use mathlib.Core.Bool.{Bool, true, false, cond, ◌&&◌, ◌||◌}
 use mathlib.Core.List.{List, [], ◌∷◌, ◌++◌, map, map-append}
-use Prim.Native.Nat.{ℕ, zero, suc, ◌+◌, ◌/◌, ◌≤◌, ◌<◌}
+use Prim.Native.Nat.{ℕ, ◌+◌, ◌<◌}
 use native.Mathlib.Omega.{arith}
-use lib.ListN.{length, get_or}
 use lib.Dec.{eqb}
-use borrow.Author.Tests.{eq-eqb, ne_eqb, eqb-true}
+use borrow.Author.Tests.{eq-eqb, ne_eqb}
 use Rattle.laws.specs.Lists.{member, Distinct, Ascending, sum_of}
 use Rattle.laws.specs.Sort.{sort_of}
 use Rattle.laws.proofs.Lists.{member_append}
-use Rattle.laws.proofs.Tests.{same_test, test_fails}
-use Rattle.laws.proofs.Members.{member_head, member_tail, member_cases, member_nil, member_left, member_right, member_append_cases, member_one, member_map, member_map_place}
+use Rattle.laws.proofs.Tests.{same_test}
+use Rattle.laws.proofs.Members.{member_head, member_tail, member_cases, member_left, member_append_cases, member_one, member_map, member_map_place}
 use Rattle.laws.proofs.Sums.{sum_sort}
 use Rattle.laws.proofs.Sort.{ascending_sort, ascending_snoc, ascending_unique, member_sort}
-use Rattle.weeks.specs.Pairs.{missing, pair_in, present, reading_in, once_of, pairs_of, amount, tally, sum_for, count_for, columns_of}
+use Rattle.weeks.specs.Pairs.{missing, pair_in, reading_in, once_of, pairs_of, amount, tally, sum_for, count_for, columns_of}
 
 -- ---- each number once
 

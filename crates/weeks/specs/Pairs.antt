@@ -2,7 +2,7 @@
 -- count of the readings of each, over the entries in any order.
 -- Assumes nothing.
 use Rattle.std.specs.Prelude.{Bool, cond, not, ◌&&◌, List, [], ◌∷◌, ◌++◌, map, ℕ, ◌+◌, ◌*◌, ◌/◌, ◌%◌, min, length, drop, eqb, leb}
-use Rattle.laws.specs.Lists.{member, count_of, sum_of}
+use Rattle.laws.specs.Lists.{member, sum_of}
 use Rattle.laws.specs.Sort.{sort_of}
 use Rattle.weeks.specs.declared.Paired.{Paired}
 

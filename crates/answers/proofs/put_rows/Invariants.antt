@@ -1,7 +1,7 @@
 -- `put_rows` meets its contract: in front stand the lines of the rows so far.
 use mathlib.Core.Path.{◌≡◌}
 use mathlib.Core.List.{◌++◌}
-use Prim.Native.Nat.{◌+◌, ◌-◌, ◌*◌, ◌≤◌}
+use Prim.Native.Nat.{◌-◌, ◌*◌, ◌≤◌}
 use lib.ListN.{drop}
 use Rattle.search.specs.Answers.{as_columns}
 use Rattle.frames.specs.Frames.{row_line_length}

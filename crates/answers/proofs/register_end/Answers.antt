@@ -1,8 +1,8 @@
 -- `register_end` meets its contract: from each line on, the bytes before the first query are what is left of those of the whole.
 use mathlib.Core.Path.{sym, ap, ◌∙◌}
-use Prim.Native.Nat.{ℕ, ◌+◌, ◌-◌}
+use Prim.Native.Nat.{ℕ, ◌+◌}
 use native.Mathlib.Omega.{arith}
-use lib.ListN.{length, drop, length-drop}
+use lib.ListN.{drop, length-drop}
 use Rattle.lines.specs.Lines.{lines_of}
 use Rattle.lines.proofs.Lines.{line_some, line_within}
 use Rattle.answers.specs.Output.{bytes_before}

@@ -1,9 +1,9 @@
 -- `head_size` meets its contract: after k turns n is 1 and the first k widths.
 -- Assumes nothing.
 use mathlib.Core.Path.{◌≡◌, refl}
-use Prim.Native.Nat.{◌-◌, ◌<◌}
+use Prim.Native.Nat.{◌<◌}
 use native.Mathlib.Omega.{arith}
-use lib.ListN.{length, get_or, take}
+use lib.ListN.{length, get_or}
 use lib.Seq.{take-length}
 use mir.Syntax.{w8}
 use mir.Val.{Fits}

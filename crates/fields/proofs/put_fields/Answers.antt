@@ -1,9 +1,9 @@
 -- `put_fields` meets its contract: after k turns the digits of the first k fields stand from index 2 on, and `at` is after them.
 -- Assumes nothing.
 use mathlib.Core.Path.{◌≡◌, refl, ◌∙◌}
-use Prim.Native.Nat.{◌+◌, ◌*◌, ◌-◌, ◌≤◌, ◌<◌}
+use Prim.Native.Nat.{◌+◌, ◌*◌, ◌≤◌, ◌<◌}
 use native.Mathlib.Omega.{arith}
-use lib.ListN.{length, get_or, take}
+use lib.ListN.{length, get_or}
 use lib.Seq.{take-length}
 use borrow.Author.Rules.{rules}
 use Rattle.laws.specs.Lists.{sum_of}

@@ -1,7 +1,6 @@
 -- `is_well_formed` meets its contract: what is left of the line from i on is well formed exactly if the whole line is.
 -- Assumes nothing.
 use mathlib.Core.Path.{refl, sym, ◌∙◌}
-use Prim.Native.Nat.{◌-◌}
 use native.Mathlib.Omega.{arith}
 use Rattle.hex_digits.proofs.Lines.{scan_step, scan_high, scan_low, scan_none, scan_last}
 use Rattle.hex_digits.proofs.is_well_formed.Goals as goal

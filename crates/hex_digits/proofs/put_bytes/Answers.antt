@@ -1,9 +1,9 @@
 -- `put_bytes` meets its contract: after k turns the digits of the first k bytes stand from index `at` on.
 -- Assumes nothing.
 use mathlib.Core.Path.{◌≡◌, refl, ◌∙◌}
-use Prim.Native.Nat.{◌+◌, ◌*◌, ◌-◌, ◌≤◌}
+use Prim.Native.Nat.{◌+◌, ◌*◌, ◌≤◌}
 use native.Mathlib.Omega.{arith}
-use lib.ListN.{length, take}
+use lib.ListN.{length}
 use lib.Seq.{take-length}
 use Rattle.hex_digits.specs.Lines.{hex_of}
 use Rattle.hex_digits.proofs.Lines.{hex_more}

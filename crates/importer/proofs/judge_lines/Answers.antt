@@ -1,6 +1,6 @@
 -- `judge_lines` meets its contract: at each place, what the lines from there on come to is what all lines come to.
 -- Assumes nothing.
-use Prim.Native.Nat.{◌≤◌, ◌-◌}
+use Prim.Native.Nat.{◌≤◌}
 use native.Mathlib.Omega.{arith}
 use lib.ListN.{length}
 use Rattle.importer.proofs.Reached.{Turn, turn, reached_nil, reached_all}

@@ -1,9 +1,7 @@
 -- `guess_names` meets its contract: it ends, and every guess is written within its slice.
 use mathlib.Core.Path.{refl}
-use Prim.Native.Nat.{◌-◌}
 use native.Mathlib.Omega.{arith}
-use lib.ListN.{length, length-set}
-use Rattle.words.specs.Words.{name_count}
+use lib.ListN.{length-set}
 use Rattle.index.proofs.Facts.{head_facts}
 use Rattle.index.proofs.Names.{names_within}
 use Rattle.index.proofs.guess_names.Goals as goal

@@ -1,8 +1,6 @@
 -- `names_good` meets its contract: what was looked at of the first i names is good.
 use mathlib.Core.Path.{sym, ◌∙◌}
-use Prim.Native.Nat.{◌-◌}
 use native.Mathlib.Omega.{arith}
-use Rattle.words.specs.Words.{name_count}
 use Rattle.index.proofs.Facts.{head_facts}
 use Rattle.index.proofs.Check.{names_none, names_more, names_all, names_bad, names_out}
 use Rattle.index.proofs.names_good.Goals as goal

@@ -3,7 +3,7 @@ use mathlib.Core.Path.{sym, subst, ◌∙◌}
 use Prim.Native.Nat.{ℕ, ◌+◌, ◌-◌, ◌≤◌, ◌<◌}
 use native.Mathlib.Omega.{arith}
 use lib.ListN.{length, get_or}
-use Rattle.words.specs.Words.{row_count, row_start, row_width}
+use Rattle.words.specs.Words.{row_start, row_width}
 use Rattle.words.proofs.Laws.{row_in_lem}
 use Rattle.index.proofs.Facts.{head_facts}
 use Rattle.index.proofs.Keys.{before_key}

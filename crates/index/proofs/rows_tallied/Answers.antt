@@ -1,7 +1,7 @@
 -- `rows_tallied` meets its contract: the first lists are good, and the tally has them.
 use mathlib.Core.Path.{◌≡◌, refl, sym, ap, subst, ◌∙◌}
-use mathlib.Core.Bool.{true, false≢true}
-use Prim.Native.Nat.{ℕ, ◌-◌}
+use mathlib.Core.Bool.{false≢true}
+use Prim.Native.Nat.{ℕ}
 use native.Mathlib.Omega.{arith}
 use Rattle.laws.specs.Below.{all_below}
 use Rattle.laws.proofs.Below.{all_nil, all_fails}

@@ -1,13 +1,12 @@
 -- `tally_good` meets its contract: the first names have their size in the tally.
 use mathlib.Core.Path.{◌≡◌, sym, ap, ◌∙◌}
-use mathlib.Core.Bool.{true}
-use Prim.Native.Nat.{ℕ, ◌-◌}
+use Prim.Native.Nat.{ℕ}
 use native.Mathlib.Omega.{arith}
 use borrow.Author.Tests.{eq-eqb, ne_eqb}
 use Rattle.laws.specs.Below.{all_below}
 use Rattle.laws.proofs.Below.{all_nil, all_fails}
 use Rattle.laws.proofs.FirstFound.{all_more}
-use Rattle.words.specs.Words.{name_count, name_size}
+use Rattle.words.specs.Words.{name_count}
 use Rattle.index.proofs.Facts.{head_facts}
 use Rattle.index.proofs.tally_good.Invariants.{sized}
 use Rattle.index.proofs.tally_good.Goals as goal

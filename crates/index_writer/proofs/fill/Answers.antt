@@ -1,7 +1,7 @@
 -- `fill` meets its contract: after i turns, the first i words are blank.
 use mathlib.Core.Path.{◌≡◌, refl, ap, ◌∙◌}
 use mathlib.Core.List.{List}
-use Prim.Native.Nat.{ℕ, ◌-◌}
+use Prim.Native.Nat.{ℕ}
 use native.Mathlib.Omega.{arith}
 use lib.ListN.{length, set, replicate, length-set, length-replicate, get_or-replicate}
 use Rattle.laws.proofs.Tables.{table_over, over_nil, over_step}

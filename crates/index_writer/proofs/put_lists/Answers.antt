@@ -1,7 +1,7 @@
 -- `put_lists` meets its contract: after i turns, the ids of the first i postings are there.
 use mathlib.Core.Path.{◌≡◌, refl, sym, ap, ap₂, ◌∙◌}
 use mathlib.Core.List.{List, map}
-use Prim.Native.Nat.{ℕ, ◌-◌, ◌/◌}
+use Prim.Native.Nat.{ℕ, ◌/◌}
 use native.Mathlib.Omega.{arith}
 use lib.ListN.{length, get_or, set, length-set, length-map}
 use Rattle.laws.proofs.Tables.{table_over, over_nil, over_step}

@@ -1,7 +1,7 @@
 -- `put_names` meets its contract: after i turns, the first i words are copied.
 use mathlib.Core.Path.{◌≡◌, refl, sym, ap, ◌∙◌}
 use mathlib.Core.List.{List}
-use Prim.Native.Nat.{ℕ, ◌-◌}
+use Prim.Native.Nat.{ℕ}
 use native.Mathlib.Omega.{arith}
 use lib.ListN.{length, get_or, set, length-set}
 use Rattle.laws.proofs.Tables.{table_over, over_nil, over_step}

@@ -1,6 +1,6 @@
 -- `put_rows` meets its contract: after i turns, the rows of the first i postings are there.
 use mathlib.Core.Path.{◌≡◌, refl, subst, ◌∙◌}
-use Prim.Native.Nat.{ℕ, ◌-◌}
+use Prim.Native.Nat.{ℕ}
 use native.Mathlib.Omega.{arith}
 use lib.ListN.{length}
 use Rattle.index_writer.specs.Keys.{triples_at}

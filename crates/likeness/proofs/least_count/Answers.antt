@@ -1,8 +1,8 @@
 -- `likeness::least_count` meets its contract: c does not pass the least count, and stops at it, since nothing below it is similar and it is.
 -- Assumes nothing.
 use mathlib.Core.Path.{◌≡◌, sym, ◌∙◌}
-use mathlib.Core.Bool.{true, false}
-use Prim.Native.Nat.{◌-◌, ◌<◌}
+use mathlib.Core.Bool.{true}
+use Prim.Native.Nat.{◌<◌}
 use native.Mathlib.Nat.{le_antisymm}
 use native.Mathlib.Omega.{arith}
 use Rattle.likeness.specs.Measures.{good_measure, good_threshold, is_similar}

@@ -1,6 +1,5 @@
 -- `line_end` meets its contract: what is left of the line from `i` on answers for the whole.
 use mathlib.Core.Path.{refl}
-use Prim.Native.Nat.{◌-◌}
 use native.Mathlib.Omega.{arith}
 use Rattle.lines.proofs.Lines.{length_line_feed, length_line_more, length_line_end}
 use Rattle.lines.proofs.line_end.Goals as goal

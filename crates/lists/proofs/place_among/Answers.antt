@@ -18,7 +18,7 @@ use Rattle.lists.specs.Part.{Span, none}
 use Rattle.lists.specs.Lists.{span_at, span_in}
 use Rattle.lists.specs.Sizes.{rows_under}
 use Rattle.lists.proofs.Rows.{span_row}
-use Rattle.lists.proofs.Sized.{many, part, under_most, length_rows, feature_in, place_in, length_in, features_rise, among, among_empty}
+use Rattle.lists.proofs.Sized.{many, under_most, length_rows, feature_in, place_in, length_in, features_rise, among, among_empty}
 use Rattle.lists.proofs.place_among.Goals as goal
 
 -- what is read of the row tells the part

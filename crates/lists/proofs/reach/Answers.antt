@@ -1,5 +1,5 @@
 -- `reach` meets its contract: it ends at a row whose size is not below, or behind the last row.
-use Prim.Native.Nat.{◌+◌, ◌-◌, ◌≤◌}
+use Prim.Native.Nat.{◌+◌, ◌≤◌}
 use native.Mathlib.Omega.{arith}
 use Rattle.words.specs.Words.{row_count}
 use Rattle.index.proofs.Laws.{good_three, good_within_lem}

@@ -1,5 +1,5 @@
 -- Opening goes by how many words are lent, and those are the program's.
-use Rattle.std.proofs.Common.{◌≡◌, ℕ, sym, ap, ◌∙◌, length}
+use Rattle.std.proofs.Common.{sym, ap, ◌∙◌}
 use Rattle.answers.specs.declared.Opened.{Opened}
 use Rattle.answers.specs.Output.{opened_of}
 use Rattle.answers.proofs.Pieces.{words_lent}

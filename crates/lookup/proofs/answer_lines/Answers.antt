@@ -1,5 +1,5 @@
 -- Each answer is the next piece of the output, and after the last one all of it is sent.
-use Rattle.std.proofs.Common.{◌≡◌, ℕ, sym, ap, ◌∙◌, rules, arith, true, length}
+use Rattle.std.proofs.Common.{◌≡◌, ap, rules, arith, true, length}
 use Rattle.answers.specs.Output.{program_words}
 use Rattle.answers.specs.declared.Response.{Response}
 use Rattle.answers.proofs.Responding.{responded_next}

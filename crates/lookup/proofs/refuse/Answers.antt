@@ -1,5 +1,5 @@
 -- The refusal fits the buffer and is all of the output.
-use Rattle.std.proofs.Common.{◌≡◌, ◌∙◌, ap, [], ◌∷◌, length, arith}
+use Rattle.std.proofs.Common.{◌∙◌, ap, [], ◌∷◌, length, arith}
 use Rattle.fields.specs.declared.Written.{Written}
 use Rattle.answers.specs.Output.{refusal_line}
 use Rattle.fields.proofs.Fitted.{fitting_whole, written_plain, out_plain}

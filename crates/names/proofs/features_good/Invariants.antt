@@ -1,7 +1,7 @@
 -- `features_good` meets its contract: after i turns the set's places hold the first i features, and 0 after them, and each of their grams has its mark.
 use mathlib.Core.Path.{◌≡◌}
 use mathlib.Core.List.{◌++◌}
-use Prim.Native.Nat.{◌+◌, ◌≤◌, ◌-◌}
+use Prim.Native.Nat.{◌≤◌, ◌-◌}
 use lib.ListN.{length, replicate}
 use Rattle.laws.specs.Lists.{tabulate}
 use Rattle.names.specs.Features.{gram_at, numbered, gram_length, characters, most_features}

@@ -1,6 +1,5 @@
 -- `has_zero` meets its contract: what is left of the name from `i` on answers for the whole.
 use mathlib.Core.Path.{refl, sym, ◌∙◌}
-use Prim.Native.Nat.{◌-◌}
 use native.Mathlib.Omega.{arith}
 use Rattle.laws.proofs.Lists.{member_met, member_passed, member_end}
 use Rattle.names.proofs.has_zero.Goals as goal

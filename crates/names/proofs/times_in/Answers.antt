@@ -1,6 +1,6 @@
 -- `times_in` meets its contract: after j turns, the count among the first j.
 use mathlib.Core.Path.{◌≡◌, sym, ap, ◌∙◌}
-use Prim.Native.Nat.{ℕ, ◌-◌, ◌/◌, ◌+◌}
+use Prim.Native.Nat.{ℕ, ◌/◌, ◌+◌}
 use native.Mathlib.Omega.{arith}
 use lib.ListN.{get_or}
 use Rattle.names.specs.Features.{times_in}

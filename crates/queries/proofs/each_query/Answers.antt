@@ -1,8 +1,8 @@
 -- `each_query` meets its contract: after k queries, their outcomes and their rows stand in front.
 use mathlib.Core.Path.{sym, ◌∙◌}
-use Prim.Native.Nat.{◌+◌, ◌-◌}
+use Prim.Native.Nat.{◌+◌}
 use native.Mathlib.Omega.{arith}
-use lib.ListN.{length, length-set}
+use lib.ListN.{length-set}
 use Rattle.search.specs.Answers.{as_columns}
 use Rattle.queries.specs.Queries.{as_outcomes}
 use Rattle.queries.proofs.Upto.{kept_all, upto_none, upto_next, upto_stop, stop_columns, upto_all, upto_outcomes, next_fits}

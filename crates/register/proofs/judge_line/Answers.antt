@@ -1,7 +1,6 @@
 -- `judge_line` meets its contract: the tests come in the order of the definition.
 use mathlib.Core.Path.{◌≡◌, sym, ap, ◌∙◌}
 use native.Mathlib.Omega.{arith}
-use lib.ListN.{length}
 use lib.Seq.{length-take-le}
 use Rattle.names.specs.Names.{judge_of}
 use Rattle.register.specs.Build.{name_of}

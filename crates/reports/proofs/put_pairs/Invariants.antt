@@ -1,7 +1,7 @@
 -- `put_pairs` meets its contract: in front stand the lines so far.
 use mathlib.Core.Path.{◌≡◌}
 use mathlib.Core.List.{◌++◌}
-use Prim.Native.Nat.{◌+◌, ◌-◌, ◌*◌, ◌≤◌}
+use Prim.Native.Nat.{◌-◌, ◌*◌, ◌≤◌}
 use lib.ListN.{drop}
 use Rattle.laws.specs.Lists.{tabulate}
 use Rattle.lines.specs.Lines.{joined}

@@ -1,6 +1,6 @@
 -- `put_cells` meets its contract: after i turns the cells of the first i rows stand over the list, which is as long as it was. The measure is what is left of n.
 use mathlib.Core.Path.{◌≡◌}
-use Prim.Native.Nat.{◌+◌, ◌-◌, ◌*◌, ◌≤◌}
+use Prim.Native.Nat.{◌+◌, ◌*◌, ◌≤◌}
 use native.Mathlib.Omega.{arith}
 use lib.ListN.{length, length-set}
 use borrow.Author.Rules.{rules}

@@ -22,7 +22,7 @@ loop-k-preserved c =
     let h : k < length lent = (let t = c.loop-k-test.true in let r = c.requires.1 in omega arith) in (
       omega arith,
       ap (λ (r : Row). set c.loop-k.rows k r) c.row_at-row.ensures
-      ∙ ap (λ (l : List Row). set l k (f k)) c.loop-k.invariant.1
-      ∙ rows_over_step f k lent h
-      ∙ ap (λ (i : ℕ). rows_over f i lent) (sym (add-one k)),
+          ∙ ap (λ (l : List Row). set l k (f k)) c.loop-k.invariant.1
+          ∙ rows_over_step f k lent h
+          ∙ ap (λ (i : ℕ). rows_over f i lent) (sym (add-one k)),
     )

@@ -1,7 +1,7 @@
 -- `name_ids` meets its contract: after i names, their ids stand in front.
 use mathlib.Core.Path.{◌≡◌, ap, ap₂, ◌∙◌}
 use mathlib.Core.List.{List}
-use Prim.Native.Nat.{ℕ, ◌<◌, ◌-◌}
+use Prim.Native.Nat.{ℕ, ◌<◌}
 use native.Mathlib.Omega.{arith}
 use lib.ListN.{length, set}
 use Rattle.laws.proofs.Tables.{table_over, over_nil, over_step, length_over}

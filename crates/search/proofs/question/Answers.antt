@@ -1,6 +1,5 @@
 -- `question` meets its contract.
 use mathlib.Core.Path.{◌≡◌, sym, ◌∙◌}
-use mathlib.Core.Bool.{true, false}
 use Rattle.names.specs.Names.{judge_of}
 use Rattle.search.proofs.Answered.{question_name, question_measure, question_threshold, question_none}
 use Rattle.search.proofs.question.Goals as goal

@@ -1,8 +1,7 @@
 -- `place_rows` meets its contract: what is done and what is left come to the same at each turn.
 use mathlib.Core.Path.{refl}
-use Prim.Native.Nat.{◌-◌}
 use native.Mathlib.Omega.{arith}
-use lib.ListN.{length, length-set}
+use lib.ListN.{length-set}
 use Rattle.settling.proofs.Laws.{Turn, all_placed, placing_nil, placing_step, placing_end}
 use Rattle.settling.proofs.place_rows.Goals as goal
 

@@ -1,7 +1,7 @@
 -- `each_size` meets its contract: after the sizes below y, their touches and their answers, and the tables as they are lent; the rows that were come
 -- past have smaller sizes.
 use mathlib.Core.Path.{◌≡◌, sym, ap, ◌∙◌}
-use Prim.Native.Nat.{◌+◌, ◌-◌, ◌≤◌, ◌<◌}
+use Prim.Native.Nat.{◌+◌, ◌≤◌, ◌<◌}
 use native.Mathlib.Omega.{arith}
 use lib.ListN.{length}
 use Rattle.index.specs.Good.{most_names}

@@ -1,6 +1,6 @@
 -- `least_counts` meets its contract: after y turns, the least counts of the sizes below y stand in front.
 use mathlib.Core.Path.{◌≡◌, ap, ◌∙◌}
-use Prim.Native.Nat.{ℕ, ◌-◌, ◌≤◌, ◌<◌}
+use Prim.Native.Nat.{ℕ, ◌≤◌, ◌<◌}
 use native.Mathlib.Omega.{arith}
 use lib.ListN.{length, replicate}
 use Rattle.laws.proofs.Tables.{over_nil, over_step, length_over}

@@ -1,7 +1,7 @@
 -- `sizes_present` meets its contract: after i turns, which sizes the first i names have.
 use mathlib.Core.Path.{◌≡◌, ap, ap₂, ◌∙◌}
 use mathlib.Core.List.{List}
-use Prim.Native.Nat.{ℕ, ◌<◌, ◌-◌}
+use Prim.Native.Nat.{ℕ, ◌<◌}
 use native.Mathlib.Omega.{arith}
 use lib.ListN.{length, set}
 use Rattle.laws.proofs.Lists.{length_tabulate, tabulate_ext}

@@ -3,7 +3,7 @@
 use mathlib.Core.Path.{◌≡◌, refl, sym, ap, ◌∙◌}
 use Prim.Native.Nat.{ℕ, ◌-◌}
 use native.Mathlib.Omega.{arith}
-use lib.ListN.{length, get_or, length-set, get_or-eq_default}
+use lib.ListN.{get_or, length-set, get_or-eq_default}
 use Rattle.splicing.proofs.Lemmas.{sorted_next, putting, put_starts, put_step, put_ends}
 use Rattle.splicing.proofs.put_in.Goals as goal
 

@@ -1,7 +1,7 @@
 -- `put_in` meets its contract: the values from place j on are put in, and `to` is the place of the last of them.
 -- Assumes nothing.
 use mathlib.Core.Path.{◌≡◌}
-use Prim.Native.Nat.{◌-◌, ◌≤◌}
+use Prim.Native.Nat.{◌≤◌}
 use lib.ListN.{length, get_or}
 use Rattle.splicing.proofs.Lemmas.{putting}
 use Rattle.splicing.proofs.put_in.Given as goal

@@ -1,7 +1,7 @@
 -- `take_out` meets its contract: the words at the first i places are taken out, and `from` is the next place.
 -- Assumes nothing.
 use mathlib.Core.Path.{refl, sym, ◌∙◌}
-use Prim.Native.Nat.{◌+◌, ◌-◌}
+use Prim.Native.Nat.{◌+◌}
 use native.Mathlib.Numerals.{add-one}
 use native.Mathlib.Omega.{arith}
 use Rattle.splicing.proofs.Lemmas.{each_le, ascending_next, take_starts, length_kept, take_step, take_ends}

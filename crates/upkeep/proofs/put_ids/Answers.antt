@@ -1,7 +1,7 @@
 -- `put_ids` meets its contract: after j turns, the first j values are the id.
 use mathlib.Core.Path.{◌≡◌, refl, ap, ◌∙◌}
 use mathlib.Core.List.{List}
-use Prim.Native.Nat.{ℕ, ◌-◌}
+use Prim.Native.Nat.{ℕ}
 use native.Mathlib.Omega.{arith}
 use lib.ListN.{length, set, replicate, length-set, length-replicate, get_or-replicate}
 use Rattle.laws.proofs.Tables.{table_over, over_nil, over_step}

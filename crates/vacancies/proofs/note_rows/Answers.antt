@@ -1,6 +1,6 @@
 -- `note_rows` meets its contract: after r turns the first r rows are noted, and the words are those of the entry in which they no longer count the id.
 use mathlib.Core.Path.{◌≡◌, refl, ◌∙◌}
-use Prim.Native.Nat.{◌-◌, ◌<◌}
+use Prim.Native.Nat.{◌<◌}
 use native.Mathlib.Omega.{arith}
 use lib.ListN.{take}
 use lib.Seq.{take_all}

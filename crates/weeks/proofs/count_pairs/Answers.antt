@@ -1,6 +1,5 @@
 -- `count_pairs` meets its contract: after i entries the steps have counted the pairs of these.
 -- Assumes nothing.
-use Prim.Native.Nat.{◌-◌}
 use native.Mathlib.Omega.{arith}
 use Rattle.weeks.proofs.Steps.{tallied_start, tallied_next, tallied_within, tallied_all}
 use Rattle.weeks.proofs.count_pairs.Goals as goal

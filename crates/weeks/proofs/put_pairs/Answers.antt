@@ -1,7 +1,6 @@
 -- `put_pairs` meets its contract: after i entries the columns start with the pairs of these, and the steps have their count and the last sum and count.
 -- Assumes nothing.
 use mathlib.Core.Path.{◌∙◌}
-use Prim.Native.Nat.{◌-◌}
 use native.Mathlib.Omega.{arith}
 use Rattle.weeks.proofs.Steps.{tallied_start, tallied_next, tallied_within, some_counted, place_within, put_all, put_none, put_every, lengths_kept}
 use Rattle.weeks.proofs.put_pairs.Goals as goal

@@ -1,8 +1,4 @@
 -- `row_word` meets its contract.
-use mathlib.Core.Path.{ap}
-use Prim.Native.Nat.{ℕ, ◌+◌}
-use lib.ListN.{get_or}
-use Rattle.words.proofs.row_word.Goals as goal
 
 -- not turned: no step `row_start_lem` above After-shared_slice_known-2-1
 -- pub returns : goal.returns
