@@ -1,5 +1,9 @@
 pub mod Lists
 pub mod Cells
+pub mod Slices
+pub mod Walking
+pub mod Arrays
+pub mod Passed
 pub mod Answers
 pub mod Laws
 pub mod Cases
