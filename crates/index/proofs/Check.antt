@@ -153,7 +153,7 @@ module _ (w : List ℕ) where
       rw (a, b, d, q)
 
   pub rows_empty : (r : ℕ) → r < row_count w → row_length w r < 1 → rows_good w ≡ false
-  rows_empty r l h = test_fails (rows_good w) (λ e. let n = (rows_facts w e).length r l in omega arith)
+  rows_empty r l h = test_fails (rows_good w) (λ e. let n = (rows_facts w e).some r l in omega arith)
 
   pub rows_misplaced : (r due : ℕ) → RowsTo r due → r < row_count w → (row_place w r ≡ due → ⊥) → rows_good w ≡ false
   rows_misplaced r due k l n = test_fails (rows_good w) (λ e. n ((rows_facts w e).place r l ∙ sym k.place))

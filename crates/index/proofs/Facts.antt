@@ -103,7 +103,7 @@ before_apart w r s (inl a) p q = omega arith
 before_apart w r s (inr a) p q = let b = a.1 in omega arith
 
 pub record Rows (w : List ℕ) : Type 0 where
-  pub length : (r : ℕ) → r < row_count w → 1 ≤ row_length w r
+  pub some : (r : ℕ) → r < row_count w → 1 ≤ row_length w r
   pub place : (r : ℕ) → r < row_count w → row_place w r ≡ place_due w r
   pub before : (r s : ℕ) → r < s → s < row_count w → Before w r s
   pub sum : sum_below (row_count w) (row_length w) ≡ posting_count w
@@ -121,7 +121,7 @@ rows_facts w g =
     λ r l. before_row w r (r + 1) (all_at (d - 1) u (and_right (all_below d t) (all_below (d - 1) u) ab) r (omega arith))
     in
     record {
-      length = λ r l. leb-true 1 (row_length w r) (and_left (leb 1 (row_length w r)) (eqb (row_place w r) (place_due w r)) (all r l));
+      some = λ r l. leb-true 1 (row_length w r) (and_left (leb 1 (row_length w r)) (eqb (row_place w r) (place_due w r)) (all r l));
       place = λ r l. eqb-true (row_place w r) (place_due w r) (and_right (leb 1 (row_length w r)) (eqb (row_place w r) (place_due w r)) (all r l));
       before = chain (Before w) (before_trans w) d next;
       sum = eqb-true (sum_below d (row_length w)) (posting_count w) (and_right (all_below d t && all_below (d - 1) u) e g);

@@ -69,7 +69,7 @@ module _ (w : List ℕ) (g : Good w) where
   pub rows_few : row_count w ≤ most_postings
   rows_few =
       let f = good_facts w g in
-      let a = sum_below_le (row_count w) (λ (r : ℕ). 1) (row_length w) f.rows.length in
+      let a = sum_below_le (row_count w) (λ (r : ℕ). 1) (row_length w) f.rows.some in
       let b = count_below_place (λ (r : ℕ). true) (row_count w) (row_count w) (omega arith) (λ i h. refl) (λ i h k. absurd (omega arith)) in
       let c = f.rows.sum in
       let d = f.head.postings in

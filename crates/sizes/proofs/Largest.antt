@@ -95,7 +95,7 @@ module _ (w : List ℕ) (good : Good w) where
           let f = good_facts w good in
           let r : ℕ = row_count w - 1 in
           let id : ℕ = posting w (row_place w r + 0) in
-          let n = any_at (name_count w) (λ (i : ℕ). eqb (name_id w i) id && eqb (name_size w i) (row_size w r)) (f.lists.named r (omega arith) 0 (let l = f.rows.length r (omega arith) in omega arith)) in
+          let n = any_at (name_count w) (λ (i : ℕ). eqb (name_id w i) id && eqb (name_size w i) (row_size w r)) (f.lists.named r (omega arith) 0 (let l = f.rows.some r (omega arith) in omega arith)) in
           let s = eqb-true (name_size w n.0) (row_size w r) (and_right (eqb (name_id w n.0) id) (eqb (name_size w n.0) (row_size w r)) n.2) in
           let g = (good_name_within w good n.0 n.1).2 in
           omega arith
