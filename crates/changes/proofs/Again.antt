@@ -14,11 +14,11 @@ use Rattle.laws.specs.Sort.{sort_of}
 use Rattle.laws.proofs.Filter.{length_filter}
 use Rattle.laws.proofs.Order.{le_or_lt}
 use Rattle.laws.proofs.Sort.{sort_sorted, sorted_sort}
-use Rattle.words.specs.Words.{total}
+use Rattle.words.specs.Words.{posting_count, total}
 use Rattle.index.specs.Good.{most_names, Good}
-use Rattle.index_writer.specs.Built.{Entry, Row, lists_of, rows_of, words_of, EntryFit, Fit}
+use Rattle.index_writer.specs.Built.{Entry, all_triples, Row, lists_of, rows_of, words_of, EntryFit, Fit}
 use Rattle.index_writer.specs.Contents.{entries_in, Narrow}
-use Rattle.index_writer.proofs.Built.{rows_postings, length_words, built_words, built_narrow, built_good, built_entries}
+use Rattle.index_writer.proofs.Built.{rows_postings, length_words, built_posting_count, built_words, built_narrow, built_good, built_entries}
 use Rattle.index_writer.proofs.Unique.{good_fit, good_built}
 use Rattle.changes.specs.Names.{ids_of, with_entry, without_id}
 use Rattle.changes.proofs.Lists.{filter_map}
@@ -91,6 +91,9 @@ module _ (w : List ℕ) (g : Good w) (narrow : Narrow w) where
   -- its own index, and what stands behind that
   pub good_split : w ≡ words_of (entries_in w) ++ drop (total w) w
   good_split = sym (take-append-drop (total w) w) ∙ ap (λ (l : List ℕ). l ++ drop (total w) w) (good_built w g narrow)
+
+  pub good_postings : posting_count w ≡ length (all_triples (entries_in w))
+  good_postings = ap posting_count good_split ∙ built_posting_count (entries_in w) (drop (total w) w)
 
   pub good_length : length (words_of (entries_in w)) ≤ length w
   good_length =

@@ -1,12 +1,14 @@
--- Laws of names with one more and with one less: they stay within the limits, the ids, the name words by place.
+-- Laws of names with one more and with one less: they stay within the limits, the ids, the name words by place, how many postings.
 -- Assumes nothing.
 use mathlib.Core.Path.{◌≡◌, refl, sym, ap, ap₂, ◌∙◌}
 use mathlib.Core.Logic.{⊎_elim}
 use mathlib.Core.Bool.{false, not}
 use mathlib.Core.List.{List, [], ◌∷◌, ◌++◌, map, map-append, append_assoc}
 use Prim.Native.Nat.{ℕ, suc, ◌+◌, ◌≤◌, ◌<◌}
+use native.Mathlib.Numerals.{add-one}
 use native.Mathlib.Omega.{arith}
-use lib.ListN.{length, get_or, take, drop, length-map}
+use lib.ListN.{length, get_or, take, drop, length-append, length-map}
+use lib.Seq.{split_at}
 use lib.Dec.{eqb}
 use borrow.Author.Tests.{le-leb, lt-leb}
 use Rattle.laws.specs.Lists.{member, Ascending, count_of}
@@ -15,9 +17,10 @@ use Rattle.laws.specs.Sort.{insert, sort_of}
 use Rattle.laws.proofs.Filter.{length_filter}
 use Rattle.laws.proofs.Members.{each_cons, each_first, each_rest}
 use Rattle.laws.proofs.Order.{le_or_lt}
-use Rattle.laws.proofs.Sort.{ascending_rest, insert_nil, insert_met, insert_passed, length_insert, sort_append, sort_append_swap}
+use Rattle.laws.proofs.Sort.{ascending_rest, insert_nil, insert_met, insert_passed, length_insert, length_sort, sort_append, sort_append_swap}
 use Rattle.index.specs.Good.{most_names}
-use Rattle.index_writer.specs.Built.{Entry, no_entry, word_of, triples_of, all_triples, EntryFit, Fit}
+use Rattle.index_writer.specs.Built.{Entry, no_entry, word_of, triple_of, triples_of, all_triples, EntryFit, Fit}
+use Rattle.index_writer.proofs.Built.{triples_append}
 use Rattle.binary_search.specs.Seats.{place_of}
 use Rattle.changes.specs.Others.{others_of}
 use Rattle.changes.specs.Names.{ids_of, with_entry, without_id}
@@ -118,6 +121,19 @@ triples_with e (x ∷ es) =
     ∙ sym (sort_append (triples_of e) (triples_of x ++ all_triples es)))
     (le_or_lt e.id x.id)
 
+length_own : (e : Entry) → length (triples_of e) ≡ length e.features
+unfolding triples_of
+length_own e = length-map e.features (λ (f : ℕ). triple_of (length e.features) f e.id)
+
+-- as many postings more as the name has features
+pub length_triples_with : (e : Entry) (es : List Entry) → length (all_triples (with_entry e es)) ≡ length e.features + length (all_triples es)
+length_triples_with e es =
+    sym (length_sort (all_triples (with_entry e es)))
+    ∙ ap length (triples_with e es)
+    ∙ length_sort (triples_of e ++ all_triples es)
+    ∙ length-append (triples_of e) (all_triples es)
+    ∙ ap (λ (n : ℕ). n + length (all_triples es)) (length_own e)
+
 -- ---- one name taken out
 
 -- a name put in under an id that is not in use, and taken out again
@@ -154,3 +170,19 @@ module _ (es : List Entry) (up : Ascending (ids_of es)) (k id : ℕ) (h : k < le
       ap (map word_of) without_place
       ∙ map-append word_of (take k es) (drop (k + 1) es)
       ∙ ap₂ (λ (l r : List ℕ). l ++ r) (map_take word_of k es) (map_drop word_of (k + 1) es)
+
+  -- as many postings less as the name had features
+  pub length_triples_without : length (all_triples (without_id id es)) + length (get_or es k no_entry).features ≡ length (all_triples es)
+  unfolding all_triples
+  length_triples_without =
+      let e = get_or es k no_entry in
+      let a = ap (λ (l : List Entry). length (all_triples l)) without_place in
+      let b = ap length (triples_append (take k es) (drop (k + 1) es)) in
+      let c = length-append (all_triples (take k es)) (all_triples (drop (k + 1) es)) in
+      let d = ap (λ (l : List Entry). length (all_triples l)) (split_at es k no_entry h) in
+      let f = ap length (triples_append (take k es) (e ∷ drop (suc k) es)) in
+      let g = length-append (all_triples (take k es)) (triples_of e ++ all_triples (drop (suc k) es)) in
+      let j = length-append (triples_of e) (all_triples (drop (suc k) es)) in
+      let m = length_own e in
+      let n = ap (λ (i : ℕ). length (all_triples (drop i es))) (add-one k) in
+      omega arith

@@ -3,13 +3,13 @@
 use mathlib.Core.Path.{◌≡◌, refl, sym, ap, ap₂, subst, ◌∙◌}
 use mathlib.Core.Logic.{◌↔◌, ⊎_elim}
 use mathlib.Core.Bool.{Bool, true, false, cond, not, ◌&&◌, false≢true}
-use mathlib.Core.List.{List, [], ◌∷◌, ◌++◌, map}
+use mathlib.Core.List.{List, map}
 use Prim.Native.Nat.{ℕ, ◌+◌, ◌-◌, ◌*◌, ◌≤◌, ◌<◌}
 use native.Mathlib.Omega.{arith}
 use lib.ListN.{length, get_or, take, length-map}
-use lib.Dec.{eqb, leb, ltb}
+use lib.Dec.{eqb, ltb}
 use borrow.Author.Tests.{leb-true, eqb-true, ltb-true, ltb-false, lt-ltb, le-ltb}
-use Rattle.hex.specs.Lines.{Bytes}
+use Rattle.hex_digits.specs.Lines.{Bytes}
 use Rattle.laws.specs.Lists.{member, Ascending}
 use Rattle.laws.specs.Cases.{first_case, all_numbers, all_numbered}
 use Rattle.laws.proofs.Cases.{first_number, first_front, first_behind}
@@ -19,18 +19,17 @@ use Rattle.laws.proofs.Members.{member_at}
 use Rattle.names.specs.Features.{features_of}
 use Rattle.names.specs.Shared.{shared_of}
 use Rattle.names.proofs.Laws.{size_most}
-use Rattle.likeness.specs.Measures.{good_measure, good_threshold, is_similar}
+use Rattle.likeness.specs.Measures.{is_similar}
 use Rattle.likeness.specs.Sizes.{is_searched}
 use Rattle.likeness.specs.Terms.{lowest_terms}
 use Rattle.likeness.proofs.Measures.{similar_fraction}
 use Rattle.likeness.proofs.Least.{least_pos, least_within, similar_least}
 use Rattle.words.specs.Words.{name_count, name_id, name_size}
-use Rattle.index.specs.Good.{good_of}
 use Rattle.index.proofs.Laws.{good_ids_apart, good_name_within}
 use Rattle.lists.specs.Lists.{list_in, features_in}
 use Rattle.lists.proofs.Laws.{features_member}
 use Rattle.sizes.specs.Method.{names_of, shared_with, touches_of_size}
-use Rattle.search.specs.Answers.{number_in, rows_in, touches_in, threshold_p, threshold_q, question_of, refusal_of, search_good_of, search_of, given_by, Columns, least_for, columns_of, over, columns_over}
+use Rattle.search.specs.Answers.{number_in, rows_in, touches_in, threshold_p, threshold_q, refusal_of, search_good_of, given_by, Columns, least_for, columns_of, over, columns_over}
 use Rattle.search.specs.declared.Answer.{Answer}
 use Rattle.search.specs.declared.Answer.TheVariants.{Found, Refused}
 use Rattle.sizes.proofs.Laws.{length_lists, held_features, listed_similar, Query}

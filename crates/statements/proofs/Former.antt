@@ -51,7 +51,7 @@ fit_then r l =
       distinct = distinct_features_by gram_length characters r.name (omega arith);
       below = λ f m.
           let p = member_place f (features_by gram_length characters r.name) m in
-          let b = feature_fits_by r.name l.bytes (omega arith) p.0 in
+          let b = feature_fits_by r.name l.bytes l.short p.0 in
           let e = p.2 in
           omega arith;
     }

@@ -26,8 +26,9 @@ use Rattle.laws.proofs.Below.{sum_below_ext}
 use Rattle.laws.proofs.BinarySearch.{count_index}
 use Rattle.names.specs.Features.{features_of}
 use Rattle.likeness.specs.Sizes.{is_searched}
-use Rattle.hex.specs.Lines.{Bytes}
-use Rattle.words.specs.Words.{name_count, name_word, name_id, name_size, total}
+use Rattle.hex_digits.specs.Lines.{Bytes}
+use Rattle.words.specs.Words.{name_count, posting_count, name_word, name_id, name_size, total}
+use Rattle.index.specs.Good.{Good}
 use Rattle.index_writer.specs.Built.{Entry, no_entry, word_of, words_of}
 use Rattle.index_writer.specs.Contents.{names_in, entries_in, Narrow}
 use Rattle.index_writer.specs.Written.{blank, pad_to}
@@ -39,14 +40,15 @@ use Rattle.changes.proofs.Lists.{absent_rest, filter_map, each_filter}
 use Rattle.changes.proofs.Names.{fit_added}
 use Rattle.upkeep.specs.Upkeep.{entry_for, added_of, words_added, withdrawn_of, words_withdrawn}
 use Rattle.upkeep.proofs.Judging.{added_adds, added_fits, added_over, Lacks, added_eight, added_kept, withdrawn_live, withdrawn_kept}
-use Rattle.upkeep.proofs.Names.{Written, written_length, written_good, written_postings, written_live, length_entries, after_add, after_withdraw, written_added, written_withdrawn, withdraw_add}
+use Rattle.upkeep.proofs.Names.{Written, written_length, written_good, written_narrow, written_postings, written_live, length_entries, after_add, postings_add, after_withdraw, postings_withdraw, written_added, written_withdrawn, withdraw_add}
+use Rattle.lines.specs.Lines.{lines_of}
 use Rattle.lines.proofs.Lines.{lines_nil}
 use Rattle.sizes.specs.Method.{names_of, touches_of_size}
 use Rattle.register.specs.Build.{most_words, words_after}
 use Rattle.register.proofs.Room.{words_most}
 use Rattle.statements.specs.Demands.{Lending, columns, records, Question, steps, Answered, Demand3, Demands, with_words, Holds, Listing}
 use Rattle.statements.specs.Former.{of_entries, IdName}
-use Rattle.statements.specs.Live.{TheIndex, Leaves, Adding, Withdrawing, OneCall, Call, Callable, words_then, with_id_name, without_id_name, Live, built, added, withdrawn, of_id_names, size_of, WorkOver, DemandsOver, Alive, AllLive, words_last, live_then, live_last, name_under, size_added, size_withdrawn, sizes_added, sizes_withdrawn, AnyRun, AnyRunFromEmpty, add, withdraw}
+use Rattle.statements.specs.Live.{TheIndex, Leaves, Adding, Withdrawing, OneCall, Call, Callable, words_then, with_id_name, without_id_name, id_names, Live, built, added, withdrawn, of_id_names, size_of, WorkOver, DemandsOver, Alive, AllLive, words_last, live_then, live_last, name_under, size_added, size_withdrawn, sizes_added, sizes_withdrawn, PostingsHeld, size_taken, sizes_taken, AnyRun, AnyRunFromEmpty, add, withdraw}
 use Rattle.statements.proofs.Demands.{searches}
 use Rattle.statements.proofs.Listing.{listings}
 use Rattle.statements.proofs.Former.{indexed}
@@ -94,7 +96,15 @@ the_index n w es k =
         ∙ get_or-replicate (n - length (words_of es)) j blank 0 (omega arith)
 
 leaves : (w after : List ℕ) (es : List Entry) → Written (length w) after es → Leaves w after (of_entries es)
-leaves w after es k = record { as_many = written_length (length w) after es k; index = the_index (length w) after es k }
+leaves w after es k =
+    let i = the_index (length w) after es k in
+    record {
+      as_many = written_length (length w) after es k;
+      good = i.good;
+      holds = i.holds;
+      beyond = i.beyond;
+      only = i.only;
+    }
 
 pub one_call : OneCall
 unfolding added_of withdrawn_of
@@ -237,16 +247,22 @@ alive w names k =
         register_accepted names k.each k.written.fit w fits,
         register_words names k.each k.written.fit w fits ∙ ap (λ (n : ℕ). pad_to n (words_of es)) long ∙ sym k.written.words,
       );
-      index = index;
+      good = index.good;
+      holds = index.holds;
       live = λ id. written_live k.room w es k.written id ∙ ap (member id) (map-map (λ (e : Entry). e.id) entry_named names);
       postings = written_postings k.room w es k.written
           ∙ length_triples es
           ∙ sum_map (λ (e : Entry). length e.features) entry_named names;
+      listed = (
+        λ a b n. (listings (of_id_names names)).0 (with_words w a) index.holds b n,
+        λ a b n. (listings (of_id_names names)).1 (with_words w a) index.holds b n,
+      );
+      back = withdraw_add k.room w es k.written;
+      index = index;
       searched = (
         λ a. demands_over columns names (with_words w a) index.holds (searches.0 (with_words w a)) (λ b n. (listings (of_id_names names)).0 (with_words w a) index.holds b n),
         λ a. demands_over records names (with_words w a) index.holds (searches.1 (with_words w a)) (λ b n. (listings (of_id_names names)).1 (with_words w a) index.holds b n),
       );
-      back = withdraw_add k.room w es k.written;
     }
   where
     es : List Entry
@@ -263,6 +279,61 @@ alive w names k =
 
 pub all_live : AllLive
 all_live w names l = alive w names (kept l)
+
+-- ---- any run of calls
+
+-- a call leaves a good index, with as many postings more or less as its name has features
+step : (w : List ℕ) → Good w → Narrow w → (c : Call) → Callable c
+    → Good (words_then w c) × Narrow (words_then w c) × (posting_count (words_then w c) + size_withdrawn w c ≡ posting_count w + size_added w c)
+unfolding Callable words_then size_added size_withdrawn
+step w g narrow (add id name) h =
+    ⊎_elim
+    (λ (z : added_of w id name ≡ 0).
+    let a = after_add w narrow id name h.0 h.1 z in
+    let es = with_entry (entry_for id name) (entries_in w) in
+    let p = postings_add w narrow id name h.0 h.1 z in (
+      written_good (length w) (words_added w id name) es a,
+      written_narrow (length w) (words_added w id name) es a,
+      rw (eq-eqb (added_of w id name) 0 z) (omega arith),
+    ))
+    (λ (n : added_of w id name ≡ 0 → ⊥).
+    let e = added_kept w id name n in
+    (rw e g, rw e narrow, rw (ne_eqb (added_of w id name) 0 n, e)))
+    (eq_or_ne (added_of w id name) 0)
+step w g narrow (withdraw id) h =
+    ⊎_elim
+    (λ (z : withdrawn_of w id ≡ 0).
+    let a = after_withdraw w narrow id z in
+    let es = without_id id (entries_in w) in
+    let p = postings_withdraw w narrow id z in (
+      written_good (length w) (words_withdrawn w id) es a,
+      written_narrow (length w) (words_withdrawn w id) es a,
+      rw (eq-eqb (withdrawn_of w id) 0 z) (omega arith),
+    ))
+    (λ (n : withdrawn_of w id ≡ 0 → ⊥).
+    let e = withdrawn_kept w id n in
+    (rw e g, rw e narrow, rw (ne_eqb (withdrawn_of w id) 0 n, e)))
+    (eq_or_ne (withdrawn_of w id) 0)
+
+postings_run : (w : List ℕ) → Good w → Narrow w → (calls : List Call) → Each Callable calls
+    → posting_count (words_last w calls) + sizes_withdrawn w calls ≡ posting_count w + sizes_added w calls
+unfolding words_last sizes_added sizes_withdrawn
+postings_run w g narrow [] h = refl
+postings_run w g narrow (c ∷ cs) h =
+    let s = step w g narrow c (each_first Callable c cs h) in
+    let a = s.2 in
+    let b = postings_run (words_then w c) s.0 s.1 cs (each_rest Callable c cs h) in
+    omega arith
+
+pub postings_held : PostingsHeld
+unfolding lines_of sum_of
+postings_held words calls k h =
+    let w = words_after [] words in
+    let a = all_live w (id_names []) (built [] words k) in
+    let narrow = written_narrow (length words) w (map entry_named (id_names [])) (lines_written [] words k) in
+    let p = postings_run w a.good narrow calls h in
+    let e = a.postings in
+    omega arith
 
 -- ---- sizes of names with one more or less
 
@@ -308,16 +379,16 @@ sizes_without id (r ∷ rs) a m = by_test (eqb r.id id) refl (sizes_without id r
         (λ (n : member id (ids rs) ≡ true). let h = k n in omega arith)
         (member_cases r.id id (ids rs) m)
 
--- ---- any run of calls
+-- ---- any run of calls, by the names
 
-live_then : (w : List ℕ) (names : List IdName) → Live w names → (c : Call) → Callable c → Live (words_then w c) (live_then w names c)
+live_then_lem : (w : List ℕ) (names : List IdName) → Live w names → (c : Call) → Callable c → Live (words_then w c) (live_then w names c)
 unfolding Callable words_then live_then
-live_then w names l (add id name) h =
+live_then_lem w names l (add id name) h =
     ⊎_elim
     (λ (z : added_of w id name ≡ 0). rw (eq-eqb (added_of w id name) 0 z) (added w names l id name h.0 h.1 z))
     (λ (n : added_of w id name ≡ 0 → ⊥). rw (ne_eqb (added_of w id name) 0 n, added_kept w id name n) l)
     (eq_or_ne (added_of w id name) 0)
-live_then w names l (withdraw id) h =
+live_then_lem w names l (withdraw id) h =
     ⊎_elim
     (λ (z : withdrawn_of w id ≡ 0). rw (eq-eqb (withdrawn_of w id) 0 z) (withdrawn w names l id z))
     (λ (n : withdrawn_of w id ≡ 0 → ⊥). rw (ne_eqb (withdrawn_of w id) 0 n, withdrawn_kept w id n) l)
@@ -325,8 +396,8 @@ live_then w names l (withdraw id) h =
 
 -- the sizes of the live names after a call
 sizes_then : (w : List ℕ) (names : List IdName) → Live w names → (c : Call)
-    → sum_of (map size_of (live_then w names c)) + size_withdrawn w names c ≡ sum_of (map size_of names) + size_added w c
-unfolding live_then size_added size_withdrawn
+    → sum_of (map size_of (live_then w names c)) + size_taken w names c ≡ sum_of (map size_of names) + size_added w c
+unfolding live_then size_added size_taken
 sizes_then w names l (add id name) = by_test (eqb (added_of w id name) 0)
   where
     r : IdName
@@ -348,12 +419,12 @@ sizes_then w names l (withdraw id) = by_test (eqb (withdrawn_of w id) 0) refl
 
 run : (w : List ℕ) (names : List IdName) → Live w names → (calls : List Call) → Each Callable calls
     → Live (words_last w calls) (live_last w names calls)
-    × (sum_of (map size_of (live_last w names calls)) + sizes_withdrawn w names calls ≡ sum_of (map size_of names) + sizes_added w calls)
-unfolding words_last live_last sizes_added sizes_withdrawn
+    × (sum_of (map size_of (live_last w names calls)) + sizes_taken w names calls ≡ sum_of (map size_of names) + sizes_added w calls)
+unfolding words_last live_last sizes_added sizes_taken
 run w names l [] h = (l, refl)
 run w names l (c ∷ cs) h =
     let s = sizes_then w names l c in
-    let r = run (words_then w c) (live_then w names c) (live_then w names l c (each_first Callable c cs h)) cs (each_rest Callable c cs h) in
+    let r = run (words_then w c) (live_then w names c) (live_then_lem w names l c (each_first Callable c cs h)) cs (each_rest Callable c cs h) in
     let t = r.1 in
     (r.0, omega arith)
 

@@ -5,7 +5,7 @@ use mathlib.Core.Bool.{Bool, true, cond}
 use mathlib.Core.List.{List, [], ◌∷◌}
 use Prim.Native.Nat.{ℕ, ◌≤◌, ◌<◌}
 use lib.ListN.{length, get_or}
-use Rattle.hex.specs.Lines.{well_formed}
+use Rattle.hex_digits.specs.Lines.{well_formed}
 use Rattle.fields.specs.Layouts.{FieldsFit, is_frame, fields_in, accepted_as, refused_with, read_of}
 use Rattle.fields.specs.declared.Reading.{Reading}
 use Rattle.fields.proofs.Layouts.{buffer_good}

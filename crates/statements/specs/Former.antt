@@ -5,6 +5,7 @@
 use Rattle.std.specs.Prelude.{◌≡◌, false, List, ◌++◌, map, ℕ, ◌≤◌, length, get_or}
 use Rattle.laws.specs.Lists.{member, Ascending}
 use Rattle.laws.specs.Each.{Each}
+use Rattle.names.specs.Names.{longest}
 use Rattle.names.specs.Features.{features_by, gram_length, characters}
 use Rattle.hex_digits.specs.Lines.{Bytes}
 use Rattle.index.specs.Good.{most_names, largest_id, Good}
@@ -44,15 +45,11 @@ pub record IdName : Type 0 where
   pub id : ℕ
   pub name : List ℕ
 
--- the most bytes that a name had then
-abbrev pub former_longest : ℕ
-former_longest = 64
-
--- it was let in before: at least one byte and at most so many, none of them 0
+-- it was let in before: at least one byte and at most the longest, none of them 0
 pub record LetIn (r : IdName) : Type 0 where
   pub id : r.id ≤ largest_id
   pub some : 1 ≤ length r.name
-  pub short : length r.name ≤ former_longest
+  pub short : length r.name ≤ longest
   pub zeros : member 0 r.name ≡ false
   pub bytes : Bytes r.name
 

@@ -18,6 +18,7 @@ use Rattle.index_writer.specs.Contents.{entries_in}
 use Rattle.changes.specs.Names.{with_entry, without_id}
 use Rattle.upkeep.specs.Upkeep.{is_live, entry_for, index_with, add_cases, added_of, words_added, withdraw_cases, withdrawn_of, words_withdrawn}
 use Rattle.lines.specs.Lines.{lines_of}
+use Rattle.lists.specs.Lists.{features_in}
 use Rattle.sizes.specs.Method.{touches_of_size}
 use Rattle.register.specs.Build.{id_in, name_of, most_words, words_after}
 use Rattle.statements.specs.Demands.{Lending, Question, Every, steps, Answered, Counted, Demand2, Demand3, with_words, Names, Holds, Listing, Accepted}
@@ -29,6 +30,15 @@ Words w = (k : ℕ) → get_or w k 0 < 4294967296
 
 -- ---- one call, of any words
 
+-- the words after an accepted call are as many as before, a good index that holds these names, and blank beyond its total; and any good index that
+-- holds the same names has the same words up to there
+pub record Leaves (before after : List ℕ) (names : Names) : Type 0 where
+  pub as_many : length after ≡ length before
+  pub good : Good after
+  pub holds : Holds after names
+  pub beyond : (k : ℕ) → total after ≤ k → k < length after → get_or after k 0 ≡ 4294967295
+  pub only : (other : List ℕ) → Words other → Good other → Holds other names → take (total other) other ≡ take (total after) after
+
 -- the words are the one good index of these names: a good index that holds them, and blank beyond its total; and any good index that holds the same
 -- names has the same words up to there
 pub record TheIndex (w : List ℕ) (names : Names) : Type 0 where
@@ -36,11 +46,6 @@ pub record TheIndex (w : List ℕ) (names : Names) : Type 0 where
   pub holds : Holds w names
   pub beyond : (k : ℕ) → total w ≤ k → k < length w → get_or w k 0 ≡ 4294967295
   pub only : (other : List ℕ) → Words other → Good other → Holds other names → take (total other) other ≡ take (total w) w
-
--- after an accepted call the words are as many as before, and the one good index of these names
-pub record Leaves (before after : List ℕ) (names : Names) : Type 0 where
-  pub as_many : length after ≡ length before
-  pub index : TheIndex after names
 
 pub record Adding (w : List ℕ) (id : ℕ) (name : List ℕ) : Type 0 where
   -- the first case that applies gives the number, 0 where none does: 6, the name's own numbers, 9, 10, 8
@@ -135,16 +140,21 @@ pub record DemandsOver (names : List IdName) (A : Type 0) (s : Lending A) (a : Q
 pub record Alive (w : List ℕ) (names : List IdName) : Type 0 where
   -- the words are exactly those of a fresh build, in as many words, of the register of the live names
   pub fresh : Accepted (register_of names) w × (words_after (register_of names) w ≡ w)
-  -- they are the one good index of the live names
-  pub index : TheIndex w (of_id_names names)
+  -- they are a good index, which holds the live names
+  pub good : Good w
+  pub holds : Holds w (of_id_names names)
   -- an id is live exactly if one of these names has it
   pub live : (id : ℕ) → is_live w id ≡ member id (map (λ (r : IdName). r.id) names)
   -- as many postings as the names have features
-  pub postings : posting_count w ≡ sum_of (map size_of names)
-  -- searches keep demands 2 and 3 over them
-  pub searched : Every (λ A s a. DemandsOver names A s (with_words w a))
+  pub postings : posting_count w ≡ sum_of (map (λ (r : IdName). length (features_of r.name)) names)
+  -- an answered search lists exactly those of them that are similar
+  pub listed : Every (λ A s a. Bytes a.query → Answered s (with_words w a) → Listing s (of_id_names names) (with_words w a))
   -- withdrawing what was added gives the very words of before
   pub back : (id : ℕ) (name : List ℕ) → id ≤ largest_id → Bytes name → added_of w id name ≡ 0 → words_withdrawn (words_added w id name) id ≡ w
+  -- they are the one good index of the live names
+  pub index : TheIndex w (of_id_names names)
+  -- searches keep demands 2 and 3 over them
+  pub searched : Every (λ A s a. DemandsOver names A s (with_words w a))
 
 -- proved by `all_live`
 abbrev pub AllLive : Type 0
@@ -156,6 +166,33 @@ AllLive = (w : List ℕ) (names : List IdName) → Live w names → Alive w name
 unfoldable pub words_last : List ℕ → List Call → List ℕ
 words_last w [] = w
 words_last w (c ∷ cs) = words_last (words_then w c) cs
+
+-- the size of the name that a call adds, and of the one that it withdraws; 0 where it is refused
+unfoldable pub size_added : List ℕ → Call → ℕ
+size_added w (add id name) = cond (eqb (added_of w id name) 0) (length (features_of name)) 0
+size_added w (withdraw id) = 0
+
+unfoldable pub size_withdrawn : List ℕ → Call → ℕ
+size_withdrawn w (add id name) = 0
+size_withdrawn w (withdraw id) = cond (eqb (withdrawn_of w id) 0) (length (features_in w id)) 0
+
+-- of all calls
+unfoldable pub sizes_added : List ℕ → List Call → ℕ
+sizes_added w [] = 0
+sizes_added w (c ∷ cs) = size_added w c + sizes_added (words_then w c) cs
+
+unfoldable pub sizes_withdrawn : List ℕ → List Call → ℕ
+sizes_withdrawn w [] = 0
+sizes_withdrawn w (c ∷ cs) = size_withdrawn w c + sizes_withdrawn (words_then w c) cs
+
+-- over any calls from the empty index that a build left, accepted or refused, the postings are the sizes added less the sizes withdrawn since: proved
+-- by `postings_held`
+abbrev pub PostingsHeld : Type 0
+PostingsHeld = (words : List ℕ) (calls : List Call) → Accepted [] words → Each Callable calls
+    → let w = words_after [] words in
+    posting_count (words_last w calls) + sizes_withdrawn w calls ≡ sizes_added w calls
+
+-- ---- any run of calls, by the names
 
 -- the names that are live after a call, where these were live in the words before it: a refused call changes none
 unfoldable pub live_then : List ℕ → List IdName → Call → List IdName
@@ -172,30 +209,22 @@ unfoldable pub name_under : ℕ → List IdName → List ℕ
 name_under id [] = []
 name_under id (r ∷ rs) = cond (eqb r.id id) r.name (name_under id rs)
 
--- the size of the name that a call accepts, and of the one that it withdraws, which was accepted before; 0 where it is refused
-unfoldable pub size_added : List ℕ → Call → ℕ
-size_added w (add id name) = cond (eqb (added_of w id name) 0) (length (features_of name)) 0
-size_added w (withdraw id) = 0
-
-unfoldable pub size_withdrawn : List ℕ → List IdName → Call → ℕ
-size_withdrawn w names (add id name) = 0
-size_withdrawn w names (withdraw id) = cond (eqb (withdrawn_of w id) 0) (length (features_of (name_under id names))) 0
+-- the size of the name that a call withdraws, as it was accepted; 0 where it is refused
+unfoldable pub size_taken : List ℕ → List IdName → Call → ℕ
+size_taken w names (add id name) = 0
+size_taken w names (withdraw id) = cond (eqb (withdrawn_of w id) 0) (length (features_of (name_under id names))) 0
 
 -- of all calls
-unfoldable pub sizes_added : List ℕ → List Call → ℕ
-sizes_added w [] = 0
-sizes_added w (c ∷ cs) = size_added w c + sizes_added (words_then w c) cs
-
-unfoldable pub sizes_withdrawn : List ℕ → List IdName → List Call → ℕ
-sizes_withdrawn w names [] = 0
-sizes_withdrawn w names (c ∷ cs) = size_withdrawn w names c + sizes_withdrawn (words_then w c) (live_then w names c) cs
+unfoldable pub sizes_taken : List ℕ → List IdName → List Call → ℕ
+sizes_taken w names [] = 0
+sizes_taken w names (c ∷ cs) = size_taken w names c + sizes_taken (words_then w c) (live_then w names c) cs
 
 -- a run of calls on words in which these names are live
 pub record Ran (w : List ℕ) (names : List IdName) (calls : List Call) : Type 0 where
   -- afterwards the words are those of just the names that are then live
   pub alive : Alive (words_last w calls) (live_last w names calls)
   -- the postings are those of before, and the sizes of the names accepted since less the sizes of the names withdrawn since
-  pub held : posting_count (words_last w calls) + sizes_withdrawn w names calls ≡ posting_count w + sizes_added w calls
+  pub held : posting_count (words_last w calls) + sizes_taken w names calls ≡ posting_count w + sizes_added w calls
 
 -- so of any calls, accepted or refused, on words that came from a build and such calls: proved by `any_run`
 abbrev pub AnyRun : Type 0
@@ -204,7 +233,7 @@ AnyRun = (w : List ℕ) (names : List IdName) → Live w names → (calls : List
 -- and from the empty index that a build left, where no name is live and no posting held: proved by `from_empty`
 pub record FromEmpty (words : List ℕ) (calls : List Call) : Type 0 where
   pub alive : Alive (words_last (words_after [] words) calls) (live_last (words_after [] words) [] calls)
-  pub held : posting_count (words_last (words_after [] words) calls) + sizes_withdrawn (words_after [] words) [] calls ≡ sizes_added (words_after [] words) calls
+  pub held : posting_count (words_last (words_after [] words) calls) + sizes_taken (words_after [] words) [] calls ≡ sizes_added (words_after [] words) calls
 
 abbrev pub AnyRunFromEmpty : Type 0
 AnyRunFromEmpty = (words : List ℕ) (calls : List Call) → Accepted [] words → Each Callable calls → FromEmpty words calls
