@@ -1,28 +1,21 @@
 -- The demands on an import: specs/Demands.antt says what, this file shows it from the definitions and the theorems of `statements` and `weeks`.
 -- Assumes nothing.
 use mathlib.Core.Path.{◌≡◌, refl, sym, ap, ap₂, ◌∙◌}
-use mathlib.Core.Bool.{Bool, true, false, cond}
+use mathlib.Core.Bool.{true}
 use mathlib.Core.List.{List, [], ◌∷◌, ◌++◌, map, append_assoc}
 use Prim.Native.Nat.{ℕ, ◌+◌, ◌<◌}
 use native.Mathlib.Omega.{arith}
 use lib.ListN.{length, get_or, drop, length-map}
 use lib.Seq.{take_at, get_or-take}
-use lib.Dec.{eqb, ltb}
-use borrow.Author.Tests.{eqb-false}
 use Rattle.laws.specs.Lists.{member, Ascending, sum_of}
 use Rattle.laws.specs.Sort.{sort_of}
 use Rattle.laws.proofs.Members.{member_place}
 use Rattle.laws.proofs.Sort.{sort_append, sort_append_swap}
-use Rattle.names.specs.Features.{features_of}
-use Rattle.likeness.specs.Terms.{lowest_terms}
 use Rattle.fields.specs.Layouts.{is_frame}
 use Rattle.log_frames.specs.Frames.{log_frame}
 use Rattle.words.specs.Words.{name_id}
 use Rattle.register.specs.Build.{words_after}
-use Rattle.sizes.specs.Method.{touches_of, answers_of}
-use Rattle.search.specs.Answers.{number_in, rows_in, refusal_of, search_good_of, search_of, places_given}
-use Rattle.search.specs.declared.Answer.{Answer}
-use Rattle.search.specs.declared.Answer.TheVariants.{Found, Refused as SearchRefused}
+use Rattle.search.specs.Answers.{rows_in, places_given}
 use Rattle.statements.specs.Demands.{columns, answer, number, after, Answered, Demand2, row_ids}
 use Rattle.statements.proofs.Demands.{searches}
 use Rattle.statements.proofs.Building.{end_to_end as lookup-end-to-end}
@@ -39,28 +32,12 @@ use Rattle.importer.proofs.Telling.{tells}
 
 -- ---- a line
 
--- no search is refused with 0
-tests_number : (a b c : Bool) (t r p q allowance rows : ℕ) → (a ≡ false → r ≡ 0 → ⊥)
-    → (m : ℕ) → ◌≡◌ {A = Answer} (cond a (cond b (SearchRefused 7 allowance) (cond c (SearchRefused 8 t) (Found rows t p q))) (SearchRefused r 0)) (SearchRefused 0 m) → ⊥
-tests_number true true c t r p q allowance rows h m e = let z : ◌≡◌ {A = ℕ} 7 0 = ap number_in e in omega arith
-tests_number true false true t r p q allowance rows h m e = let z : ◌≡◌ {A = ℕ} 8 0 = ap number_in e in omega arith
-tests_number true false false t r p q allowance rows h m e = let z : ◌≡◌ {A = ℕ} 0 1 = cc in omega arith
-tests_number false b c t r p q allowance rows h m e = h refl (ap number_in e)
-
-refused_so : (words : List ℕ) (s : Settings) (name : List ℕ) (m : ℕ) → answer_to words s name ≡ SearchRefused 0 m → ⊥
-unfolding search_of search_good_of
-refused_so words s name m =
-    tests_number (eqb (refusal_of name s.measure s.p s.q words) 0) (ltb s.allowance (touches_of words s.measure s.p s.q (features_of name)))
-    (ltb row_room (length (answers_of words s.measure s.p s.q (features_of name)))) (touches_of words s.measure s.p s.q (features_of name))
-    (refusal_of name s.measure s.p s.q words) (lowest_terms s.p s.q).p (lowest_terms s.p s.q).q s.allowance
-    (length (answers_of words s.measure s.p s.q (features_of name))) (λ f. eqb-false _ _ f) m
-
 module _ (words : List ℕ) (s : Settings) (line : List ℕ) where
   -- the ids of the rows are those that the outcome goes by
   row_ids_lem : row_ids columns (question_of words s line) ≡ listed_for words s (typed_in line)
   row_ids_lem =
       let places = places_given (typed_in line) s.measure s.p s.q s.allowance words row_room in
-      let n : length (map (name_id words) places) ≡ rows_in (answer_to words s (typed_in line)) = length-map places (name_id words) ∙ sym (rows_given_lem (typed_in line) s.measure s.p s.q s.allowance words row_room).0 in
+      let n : length (map (name_id words) places) ≡ rows_in (answer_to words s (typed_in line)) = length-map places (name_id words) ∙ sym (rows_given_lem (typed_in line) s words (question_of words s line).lent refl) in
       take_at (map (name_id words) places) (drop (length (map (name_id words) places)) (question_of words s line).lent.ids) (rows_in (answer_to words s (typed_in line))) n
 
   -- what the demands on a search say of them
@@ -89,7 +66,7 @@ module _ (words : List ℕ) (s : Settings) (line : List ℕ) where
 pub lines : Lines
 unfolding outcome_of
 lines words s line f =
-    tells _ _ _ _ (answer_to words s (typed_in line)) (listed_for words s (typed_in line)) (judged words s line f) (judged_back words s line f) (refused_so words s (typed_in line))
+    tells _ _ _ _ (answer_to words s (typed_in line)) (listed_for words s (typed_in line)) (judged words s line f) (judged_back words s line f) (searches.0 (question_of words s line)).one.numbered
     (λ a i h. rw (row_ids_lem words s line) at ((demand2 words s line f a).exactly i h))
     (λ a x m.
     let d = demand2 words s line f a in
@@ -102,7 +79,7 @@ pub end_to_end : EndToEnd
 unfolding outcome_of
 end_to_end register words s line f b =
     let w = words_after register words in
-    tells _ _ _ _ (answer_to w s (typed_in line)) (listed_for w s (typed_in line)) (judged w s line f) (judged_back w s line f) (refused_so w s (typed_in line))
+    tells _ _ _ _ (answer_to w s (typed_in line)) (listed_for w s (typed_in line)) (judged w s line f) (judged_back w s line f) (searches.0 (question_of w s line)).one.numbered
     (λ a i h. rw (row_ids_lem w s line) at (((lookup-end-to-end register words).0 (question_of words s line) (log_frames.log_bytes line f).0 b a).exactly i h))
     (λ a x m.
     let j = listed_row w s line (demand2 w s line f a) x m in

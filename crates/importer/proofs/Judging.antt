@@ -58,11 +58,9 @@ module _ (line : List ℕ) (room : ℕ) (h : 255 ≤ room) (r : LogRead) (e : lo
 
 pub read_typed : (line before : List ℕ) (r : LogRead) (after : List ℕ) → log_out r ≡ read_of log_frame line (length before) → after ≡ buffer_of log_frame line before
     → length before ≡ 255 → is_frame log_frame line ≡ true → take r.len after ≡ typed_in line
-unfolding buffer_of
 read_typed line before r after e b l f =
     let h : 255 ≤ length before = omega arith in
-    let z : read_of log_frame line (length before) ≡ accepted_as log_frame line = sym e ∙ read_frame line (length before) h r e f in
-    let k : after ≡ typed_in line ++ drop (length (typed_in line)) before = rw z at b in
+    let k : after ≡ typed_in line ++ drop (length (typed_in line)) before = b ∙ log_frames.log_typed line before f h in
     let n = read_length line (length before) h r e f in
     rw k (take_at (typed_in line) (drop (length (typed_in line)) before) r.len (sym n))
 

@@ -1,21 +1,16 @@
--- A line's search: how many rows it gives and their ids, by the definition of a search alone; and the outcome by them.
+-- A line's search: how many rows it gives and their ids, by the demands on a search; and the outcome by them.
 -- Assumes nothing.
 use mathlib.Core.Path.{◌≡◌, refl, sym, ap, ap₂, ◌∙◌}
-use mathlib.Core.Bool.{Bool, true, false, cond}
 use mathlib.Core.List.{List, [], ◌∷◌, ◌++◌, map}
 use Prim.Native.Nat.{ℕ, zero, suc, ◌≤◌}
 use native.Mathlib.Omega.{arith}
 use lib.ListN.{length, get_or, take, drop, length-map, length-append}
 use lib.Seq.{take_at}
-use lib.Dec.{eqb, ltb}
-use borrow.Author.Tests.{ltb-false}
-use Rattle.names.specs.Features.{features_of}
-use Rattle.likeness.specs.Terms.{lowest_terms}
 use Rattle.words.specs.Words.{name_id}
-use Rattle.sizes.specs.Method.{touches_of, answers_of}
-use Rattle.search.specs.Answers.{rows_in, refusal_of, search_good_of, search_of, given_by, places_given, Columns, room_of, Searched}
+use Rattle.search.specs.Answers.{rows_in, search_of, places_given, Columns, room_of, Searched}
 use Rattle.search.specs.declared.Answer.{Answer}
 use Rattle.search.specs.declared.Answer.TheVariants.{Found, Refused as SearchRefused}
+use Rattle.statements.proofs.Demands.{searches}
 use Rattle.importer.specs.declared.Settings.{Settings}
 use Rattle.importer.specs.declared.Outcome.{Outcome}
 use Rattle.importer.specs.declared.Outcome.TheVariants.{Belongs, Unresolved, Ambiguous, Refused}
@@ -23,24 +18,12 @@ use Rattle.importer.specs.Import.{row_room, outcome_from, answer_to, listed_for,
 
 -- ---- the rows of a search
 
--- as many as the places that are given, and within the room
-tests_rows : (a b c : Bool) (t r p q allowance room : ℕ) (places : List ℕ) → (c ≡ false → length places ≤ room)
-    → let x : Answer = cond a (cond b (SearchRefused 7 allowance) (cond c (SearchRefused 8 t) (Found (length places) t p q))) (SearchRefused r 0) in
-    (rows_in x ≡ length (given_by x places)) × (rows_in x ≤ room)
-unfolding given_by
-tests_rows true true c t r p q allowance room places h = (refl, omega arith)
-tests_rows true false true t r p q allowance room places h = (refl, omega arith)
-tests_rows true false false t r p q allowance room places h = (refl, h refl)
-tests_rows false b c t r p q allowance room places h = (refl, omega arith)
-
-module _ (query : List ℕ) (m p q allowance : ℕ) (w : List ℕ) (room : ℕ) where
-  pub rows_given_lem : (rows_in (search_of query m p q allowance w room) ≡ length (places_given query m p q allowance w room)) × (rows_in (search_of query m p q allowance w room) ≤ room)
-  unfolding search_of search_good_of
-  rows_given_lem =
-      tests_rows (eqb (refusal_of query m p q w) 0) (ltb allowance (touches_of w m p q (features_of query)))
-      (ltb room (length (answers_of w m p q (features_of query)))) (touches_of w m p q (features_of query)) (refusal_of query m p q w)
-      (lowest_terms p q).p (lowest_terms p q).q allowance room (answers_of w m p q (features_of query))
-      (λ e. ltb-false room (length (answers_of w m p q (features_of query))) e)
+-- the rows that are reported are as many as the names that are given: so of every search, by the demands
+pub rows_given_lem : (query : List ℕ) (s : Settings) (w : List ℕ) (lent : Columns) → room_of lent ≡ row_room
+    → rows_in (answer_to w s query) ≡ length (places_given query s.measure s.p s.q s.allowance w row_room)
+rows_given_lem query s w lent room =
+    rw room at
+    (searches.0 (record { query = query; measure = s.measure; p = s.p; q = s.q; allowance = s.allowance; words = w; lent = lent })).one.given
 
 -- what a search with room for 256 rows leaves: its rows are the first ids
 module _ (query : List ℕ) (s : Settings) (w : List ℕ) (before after : Columns) (r : Answer)
@@ -48,21 +31,22 @@ module _ (query : List ℕ) (s : Settings) (w : List ℕ) (before after : Column
   pub searched_answer : r ≡ answer_to w s query
   searched_answer = d.answer ∙ ap (λ (n : ℕ). search_of query s.measure s.p s.q s.allowance w n) room
 
-  rows_so : (rows_in r ≡ length (places_given query s.measure s.p s.q s.allowance w row_room)) × (rows_in r ≤ row_room)
-  rows_so = rw searched_answer (rows_given_lem query s.measure s.p s.q s.allowance w row_room)
+  -- as many as the names that are given
+  rows_so : rows_in r ≡ length (places_given query s.measure s.p s.q s.allowance w row_room)
+  rows_so = rw searched_answer (rows_given_lem query s w before room)
 
   pub searched_ids : take (rows_in r) after.ids ≡ listed_for w s query
   searched_ids =
       let places = places_given query s.measure s.p s.q s.allowance w row_room in
       let e : after.ids ≡ map (name_id w) places ++ drop (length (map (name_id w) places)) before.ids = ap (λ (x : Columns). x.ids) d.columns ∙ (rw room) in
-      let n : length (map (name_id w) places) ≡ rows_in r = length-map places (name_id w) ∙ sym rows_so.0 in
+      let n : length (map (name_id w) places) ≡ rows_in r = length-map places (name_id w) ∙ sym rows_so in
       rw e (take_at (map (name_id w) places) (drop (length (map (name_id w) places)) before.ids) (rows_in r) n)
 
   pub searched_within : rows_in r ≤ length after.ids
   searched_within =
       let places = places_given query s.measure s.p s.q s.allowance w row_room in
       let e : after.ids ≡ map (name_id w) places ++ drop (length (map (name_id w) places)) before.ids = ap (λ (x : Columns). x.ids) d.columns ∙ (rw room) in
-      let n : length (map (name_id w) places) ≡ rows_in r = length-map places (name_id w) ∙ sym rows_so.0 in
+      let n : length (map (name_id w) places) ≡ rows_in r = length-map places (name_id w) ∙ sym rows_so in
       let a = ap length e ∙ length-append (map (name_id w) places) (drop (length (map (name_id w) places)) before.ids) in
       omega arith
 

@@ -50,7 +50,7 @@ rows_few (r ∷ rs) f =
     let c = rows_few rs (each_rest RowFit r rs f) in
     omega arith
 
-words_most : (es : List Entry) → Fit es → length (words_of es) ≤ most_words
+pub words_most : (es : List Entry) → Fit es → length (words_of es) ≤ most_words
 words_most es f =
     let a = length_words es in
     let b = rows_few (rows_of es) (rows_of_fit es f).each in

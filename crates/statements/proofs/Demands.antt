@@ -8,7 +8,7 @@ use Prim.Native.Nat.{ℕ, ◌+◌, ◌-◌, ◌*◌, ◌≤◌, ◌<◌}
 use native.Mathlib.Omega.{arith}
 use lib.ListN.{length, get_or, take, length-map}
 use lib.Dec.{eqb, ltb}
-use borrow.Author.Tests.{leb-true, eqb-true, ltb-true, lt-ltb, le-ltb}
+use borrow.Author.Tests.{leb-true, eqb-true, ltb-true, ltb-false, lt-ltb, le-ltb}
 use Rattle.hex_digits.specs.Lines.{Bytes}
 use Rattle.laws.specs.Lists.{member, Ascending}
 use Rattle.laws.specs.Cases.{first_case, all_numbers, all_numbered}
@@ -132,11 +132,45 @@ module _ {A : Type 0} (s : Lending A) (lends : Lends s) (a : Question A) where
       ∙ ap (λ (r : Answer). touches_with a (number_in r)) (sym (judged_before n)))
       (eq_or_ne (refusal_of a.query a.measure a.p a.q a.words) 0)
 
+  -- as many rows as names given, within the room
+  abbrev AsGiven : Answer → Type 0
+  AsGiven r = (rows_in r ≡ length (given_by r (found a))) × (rows_in r ≤ room)
+
+  none_given : (n t : ℕ) → AsGiven (Refused n t)
+  unfolding given_by
+  none_given n t = (refl, omega arith)
+
+  good_given : AsGiven good_answer
+  unfolding search_good_of given_by
+  good_given = by_tests (ltb a.allowance (steps a)) (ltb room (length (found a))) (λ e. ltb-false room (length (found a)) e)
+    where
+      by_tests : (t f : Bool) → (f ≡ false → length (found a) ≤ room) → AsGiven (by_both_tests t f)
+      by_tests true f h = none_given 7 a.allowance
+      by_tests false true h = none_given 8 (steps a)
+      by_tests false false h = (refl, h refl)
+
+  as_given : AsGiven (answer s a)
+  as_given =
+      ⊎_elim
+      (λ (z : refusal_of a.query a.measure a.p a.q a.words ≡ 0). rw (judged_after z) good_given)
+      (λ (n : refusal_of a.query a.measure a.p a.q a.words ≡ 0 → ⊥). rw (judged_before n) (none_given (first_case (before_work a)) 0))
+      (eq_or_ne (refusal_of a.query a.measure a.p a.q a.words) 0)
+
+  -- a refusal with the number 0 would be an answer
+  never_zero : (t : ℕ) → answer s a ≡ Refused 0 t → ⊥
+  never_zero t e =
+      let k = (answered a.query a.measure a.p a.q a.allowance a.words room (ap number_in e)).form in
+      let z : ◌≡◌ {A = ℕ} 0 1 = cc in
+      omega arith
+
   demand_1 : Demand1 s a
   demand_1 =
       record {
         judged = judged_first;
         touched = touched_with;
+        numbered = never_zero;
+        given = as_given.0;
+        within = as_given.1;
         nothing = refused_empty (answer s a);
         kept = λ n.
             ap (λ (l : List ℕ). s.written a.words a.measure a.p a.q (features_of a.query) l a.lent) (refused_gives (answer s a) (found a) n)

@@ -34,6 +34,7 @@ use Rattle.candidates.specs.Method.{signatures, signature_postings}
 use Rattle.sizes.specs.Method.{names_of, lists_for, remaining, touches_of_size, touches_of, answers_of}
 use Rattle.search.specs.Answers.{number_in, rows_in, touches_in, threshold_p, threshold_q, refusal_cases, search_of, given_by, Columns, room_of, columns_of, columns_over}
 use Rattle.search.specs.declared.Answer.{Answer}
+use Rattle.search.specs.declared.Answer.TheVariants.{Refused}
 use Rattle.rows.specs.Rows.{records_of, over_rows, columns_in, row_across}
 use Rattle.rows.specs.declared.Row.{Row as Record}
 use Rattle.answers.specs.Output.{answer_of}
@@ -146,6 +147,11 @@ pub record Demand1 {A : Type 0} (s : Lending A) (a : Question A) : Type 0 where
   pub judged : number s a ≡ first_case (refusals s a)
   -- the touches that are reported are those that go with it
   pub touched : touches_in (answer s a) ≡ touches_with a (number s a)
+  -- no refusal has the number 0
+  pub numbered : (touches : ℕ) → answer s a ≡ Refused 0 touches → ⊥
+  -- the rows that are reported are as many as the names that are given, and within the room
+  pub given : rows_in (answer s a) ≡ length (given_by (answer s a) (found a))
+  pub within : rows_in (answer s a) ≤ s.room a.lent
   -- a refusal reports no rows, and the threshold as 0/0
   pub nothing : (number s a ≡ 0 → ⊥) → (rows_in (answer s a) ≡ 0) × (threshold_p (answer s a) ≡ 0) × (threshold_q (answer s a) ≡ 0)
   -- and writes none: all that is lent is what it was

@@ -2,7 +2,7 @@
 -- and those of a lookup together. `LogFrames` has nothing left open, and is proved as it stands by `log_frames`.
 -- The frames of a lookup are in Demands.antt.
 -- Assumes nothing.
-use Rattle.std.specs.Prelude.{◌≡◌, true, cond, List, [], ◌∷◌, ◌++◌, ℕ, ◌≤◌, ◌<◌, length, get_or, drop}
+use Rattle.std.specs.Prelude.{◌≡◌, true, false, cond, List, [], ◌∷◌, ◌++◌, ℕ, ◌≤◌, ◌<◌, length, get_or, drop}
 use Rattle.fields.specs.Layouts.{is_frame, fields_in, name_in, line_of, accepted_as, refused_with, read_of, buffer_of}
 use Rattle.log_frames.specs.Frames.{log_frame, outcome_frame, pair_frame, import_end_frame, import_refusal_frame, all_layouts, log_out, outcome_out, pair_out, import_end_out, import_refusal_out}
 use Rattle.log_frames.specs.declared.LogRead.{LogRead}
@@ -22,6 +22,11 @@ pub record LogFrames : Type 0 where
   -- a buffer of 255 bytes is room for every typed name, so that such a reading is 0 or 11; and a typed name is at most 255 bytes
   pub log_room : (l : List ℕ) (room : ℕ) → 255 ≤ room → read_of log_frame l room ≡ cond (is_frame log_frame l) (accepted_as log_frame l) (refused_with log_frame 11)
   pub log_bytes : (l : List ℕ) → is_frame log_frame l ≡ true → Bytes (name_in log_frame l) × (length (name_in log_frame l) ≤ 255)
+  -- it stands at the start of such a buffer, and what stood after it is kept
+  pub log_typed : (l buffer : List ℕ) → is_frame log_frame l ≡ true → 255 ≤ length buffer
+      → buffer_of log_frame l buffer ≡ name_in log_frame l ++ drop (length (name_in log_frame l)) buffer
+  -- no bytes at all are no frame
+  pub log_empty : is_frame log_frame [] ≡ false
   -- its day and its reading have two bytes each
   pub log_fields : (l : List ℕ) → is_frame log_frame l ≡ true → (get_or (fields_in log_frame l) 0 0 < 65536) × (get_or (fields_in log_frame l) 1 0 < 65536)
   pub outcome_back : (number value : ℕ) → number < 256 → value < 65536

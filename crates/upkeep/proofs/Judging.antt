@@ -2,17 +2,19 @@
 -- And a name put in with its features in ascending order: the same index. For the proofs of `add` and `withdraw`.
 -- Assumes nothing.
 use mathlib.Core.Path.{◌≡◌, refl, sym, ap, ap₂, ◌∙◌}
-use mathlib.Core.Bool.{Bool, true, false, cond, not}
+use mathlib.Core.Logic.{⊎_elim}
+use mathlib.Core.Bool.{Bool, true, false, cond, not, false≢true}
 use mathlib.Core.List.{List, [], ◌∷◌, ◌++◌, map}
 use Prim.Native.Nat.{ℕ, ◌+◌, ◌*◌, ◌≤◌, ◌<◌}
 use native.Mathlib.Omega.{arith}
 use borrow.Author.Tests.{eq-eqb, ne_eqb, le-leb, lt-leb, leb-true, leb-false}
 use lib.ListN.{length, take, drop}
-use lib.Dec.{leb}
+use lib.Dec.{eqb, leb}
 use Rattle.laws.specs.Lists.{Ascending}
 use Rattle.laws.specs.Sort.{sort_of}
-use Rattle.laws.specs.Cases.{Case, case, first_case}
-use Rattle.laws.proofs.Cases.{not_false, first_here, first_next, first_front, first_passed, first_behind, first_split}
+use Rattle.laws.specs.Cases.{Case, case, first_case, all_numbers}
+use Rattle.laws.proofs.Cases.{not_false, first_here, first_next, first_number, first_front, first_passed, first_behind, first_split}
+use Rattle.laws.proofs.Order.{eq_or_ne, le_or_lt}
 use Rattle.laws.proofs.Sort.{length_sort, member_sort, sorted_sort, sort_sorted, distinct_sort, sort_append}
 use Rattle.names.specs.Names.{name_cases, judge_of}
 use Rattle.names.proofs.Laws.{names_numbered}
@@ -59,6 +61,14 @@ module _ (w : List ℕ) (id : ℕ) (name : List ℕ) where
         few = leb-false most_names (name_count w) m.0;
         fits = leb-true (length (index_with w id name)) (length w) (not_false (fits_in (length w) (index_with w id name)) f.0);
       }
+
+  -- what an add that lacks room is: nothing else refuses it
+  pub record Lacks : Type 0 where
+    pub good : Good w
+    pub judged : judge_of name ≡ 0
+    pub unused : is_live w id ≡ false
+    pub few : name_count w < most_names
+    pub over : length w < length (index_with w id name)
 
   pub add_bad : good_of w ≡ false → added_of w id name ≡ 6
   unfolding added_of
@@ -107,6 +117,40 @@ module _ (w : List ℕ) (id : ℕ) (name : List ℕ) where
 
         pub added_over : name_count w < most_names → length w < length (index_with w id name) → added_of w id name ≡ 8
         added_over h l = rw (lt-leb (length (index_with w id name)) (length w) l) at (add_rest h)
+
+  -- a name's own number is never 8
+  not_eight : judge_of name ≡ 8 → ⊥
+  unfolding judge_of
+  not_eight q =
+      let n : not (eqb (judge_of name) 8) ≡ true = first_number (λ (x : ℕ). not (eqb x 8)) (name_cases name) refl (unfold all_numbers in refl) in
+      false≢true (ap (λ (x : ℕ). not (eqb x 8)) (sym q) ∙ n)
+
+  -- 8 comes where nothing else refuses it and the index that would result does not fit
+  pub added_eight : added_of w id name ≡ 8 → Lacks
+  added_eight e = by_good (good_of w) refl
+    where
+      by_room : (good : good_of w ≡ true) (named : judge_of name ≡ 0) (unused : is_live w id ≡ false) → name_count w < most_names → Lacks
+      by_room good named unused few =
+          ⊎_elim
+          (λ (f : length (index_with w id name) ≤ length w). let z = added_fits good named unused few f in absurd (omega arith))
+          (λ (o : length w < length (index_with w id name)). record { good = good; judged = named; unused = unused; few = few; over = o })
+          (le_or_lt (length (index_with w id name)) (length w))
+
+      by_live : good_of w ≡ true → judge_of name ≡ 0 → (b : Bool) → is_live w id ≡ b → Lacks
+      by_live good named true l = let z = add_live good named l in absurd (omega arith)
+      by_live good named false l =
+          ⊎_elim
+          (λ (h : most_names ≤ name_count w). let z = add_full good named l h in absurd (omega arith))
+          (by_room good named l)
+          (le_or_lt most_names (name_count w))
+
+      by_good : (b : Bool) → good_of w ≡ b → Lacks
+      by_good false b = let z = add_bad b in absurd (omega arith)
+      by_good true good =
+          ⊎_elim
+          (λ (z : judge_of name ≡ 0). by_live good z (is_live w id) refl)
+          (λ (n : judge_of name ≡ 0 → ⊥). absurd (not_eight (sym (add_name good n) ∙ e)))
+          (eq_or_ne (judge_of name) 0)
 
 -- ---- the number of a withdrawal
 

@@ -121,7 +121,7 @@ withdraw_add n w es k id name low bytes z =
 
 -- ---- after a call on any words
 
-length_entries : (w : List ℕ) → length (entries_in w) ≡ name_count w
+pub length_entries : (w : List ℕ) → length (entries_in w) ≡ name_count w
 unfolding entries_in
 length_entries w = length_tabulate (entry_in w) (name_count w)
 
