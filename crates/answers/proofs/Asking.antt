@@ -4,10 +4,12 @@ use mathlib.Core.Path.{◌≡◌, refl, sym, ap, ap₂, subst, ◌∙◌}
 use mathlib.Core.Logic.{⊎_elim}
 use mathlib.Core.Bool.{Bool, true, false, cond}
 use mathlib.Core.List.{List, ◌++◌, map}
+use Rattle.std.proofs.Common.{Ok, Err}
+use Rattle.std.proofs.lemmas.List.{get_or-take}
 use Prim.Native.Nat.{ℕ, ◌≤◌, ◌<◌}
 use native.Mathlib.Omega.{arith}
 use lib.ListN.{length, get_or, take, drop, length-append, length-map, get_or-append}
-use lib.Seq.{take-append_seam}
+use lib.Seq.{length-take-le, take-append_seam}
 use lib.Dec.{eqb}
 use Rattle.laws.proofs.Lists.{tabulate_ext}
 use Rattle.laws.proofs.Members.{member_at}
@@ -15,18 +17,21 @@ use Rattle.laws.proofs.Order.{eq_or_ne}
 use Rattle.names.specs.Features.{features_of}
 use Rattle.names.proofs.Laws.{size_most}
 use Rattle.lines.specs.Lines.{joined}
-use Rattle.fields.specs.declared.Reading.{Reading}
+use Rattle.fields.specs.Layouts.{Reading}
 use Rattle.fields.specs.Layouts.{is_frame, name_in, read_of, buffer_of, accepted_as, refused_with, longest_name}
 use Rattle.fields.proofs.Laws.{read_roomy}
-use Rattle.frames.specs.declared.QueryRead.{QueryRead}
+use Rattle.refusals.specs.declared.Refusal.{Refusal}
+use Rattle.refusals.specs.Refusals.{refusal_number}
+use Rattle.refusals.proofs.Refusals.{refused}
+use Rattle.frames.specs.declared.Query.{Query}
 use Rattle.frames.specs.Frames.{query_frame, query_out}
 use Rattle.likeness.proofs.Least.{least_most}
 use Rattle.words.specs.Words.{name_count, name_id, name_size}
 use Rattle.index.proofs.Laws.{good_name_within}
 use Rattle.sizes.specs.Method.{shared_with, answers_of}
-use Rattle.search.specs.Answers.{number_in, rows_in, search_of, Columns, room_of, least_for, columns_of, over, columns_over, places_given, Searched}
-use Rattle.search.specs.declared.Answer.{Answer}
-use Rattle.search.specs.declared.Answer.TheVariants.{Found, Refused}
+use Rattle.search.specs.Answers.{number_in, rows_in, search_of, Columns, as_columns, room_of, least_for, columns_of, over, columns_over, places_given, Searched}
+use Rattle.search.specs.Answers.{Answer}
+use Rattle.search.specs.Answers.{Found, Refused}
 use Rattle.search.proofs.Outcomes.{refused_empty, given_found, Answered, answered, shared_most}
 use Rattle.search.proofs.Listed.{over_at, answer_place}
 use Rattle.answers.specs.Output.{row_line, end_line, refusal_line, row_text, rows_text, found_text, answer_text, rows_lent, query_in, measure_in, p_in, q_in, allowance_in, search_for, columns_for, answer_of}
@@ -34,67 +39,66 @@ use Rattle.answers.specs.Rows.{Shown}
 
 -- ---- what was read
 
-module _ (line buffer after : List ℕ) (r : QueryRead) (room : length buffer ≡ longest_name) (read : query_out r ≡ read_of query_frame line (length buffer))
-    (left : after ≡ buffer_of query_frame line buffer) where
-  read_as : (t : Bool) → is_frame query_frame line ≡ t → query_out r ≡ cond t (accepted_as query_frame line) (refused_with query_frame 11)
+module _ (line buffer : List ℕ) (room : length buffer ≡ longest_name) where
+  read_as : (t : Bool) → is_frame query_frame line ≡ t → read_of query_frame line (length buffer) ≡ cond t (accepted_as query_frame line) (refused_with query_frame 11)
   read_as t e =
-      read
-      ∙ read_roomy query_frame line (length buffer) (omega arith)
+      read_roomy query_frame line (length buffer) (omega arith)
       ∙ ap (λ (b : Bool). cond b (accepted_as query_frame line) (refused_with query_frame 11)) e
 
-  pub query_frame_lem : r.number ≡ 0 → is_frame query_frame line ≡ true
-  query_frame_lem z = by_test (is_frame query_frame line) refl
-    where
-      by_test : (t : Bool) → is_frame query_frame line ≡ t → t ≡ true
-      by_test true f = refl
-      by_test false f = let e = ap (λ (x : Reading). x.number) (read_as false f) in absurd (omega arith)
-
   -- a refused reading is 11, and its line is answered so
-  pub query_bad : (w : List ℕ) → (r.number ≡ 0 → ⊥) → refusal_line r.number 0 ≡ answer_of w line
+  pub query_bad : (w : List ℕ) (e : Refusal) → query_out (Err e) ≡ read_of query_frame line (length buffer) → refusal_line (refusal_number e) 0 ≡ answer_of w line
   unfolding answer_of
-  query_bad w n = by_test (is_frame query_frame line) refl
+  query_bad w e read = by_test (is_frame query_frame line) refl
     where
       by_test : (t : Bool) → is_frame query_frame line ≡ t
-          → refusal_line r.number 0
+          → refusal_line (refusal_number e) 0
           ≡ cond t (answer_text (search_for w line) (columns_for w line)) (refusal_line 11 0)
-      by_test true f = absurd (n (ap (λ (x : Reading). x.number) (read_as true f)))
-      by_test false f = ap (λ (k : ℕ). refusal_line k 0) (ap (λ (x : Reading). x.number) (read_as false f))
+      by_test true f = absurd (refused e (ap (λ (x : Reading). x.number) (read ∙ read_as true f)))
+      by_test false f = ap (λ (x : Reading). refusal_line x.number 0) (read ∙ read_as false f)
 
-  accepted : r.number ≡ 0 → query_out r ≡ accepted_as query_frame line
-  accepted z = read_as true (query_frame_lem z)
+  module _ (after : List ℕ) (r : Query) (read : query_out (Ok r) ≡ read_of query_frame line (length buffer)) (left : after ≡ buffer_of query_frame line buffer) where
+    pub query_frame_lem : is_frame query_frame line ≡ true
+    query_frame_lem = by_test (is_frame query_frame line) refl
+      where
+        by_test : (t : Bool) → is_frame query_frame line ≡ t → t ≡ true
+        by_test true f = refl
+        by_test false f = let e = ap (λ (x : Reading). x.number) (read ∙ read_as false f) in absurd (omega arith)
 
-  pub query_measure : r.number ≡ 0 → r.measure ≡ measure_in line
-  query_measure z = ap (λ (x : Reading). get_or x.fields 0 0) (accepted z)
+    accepted : query_out (Ok r) ≡ accepted_as query_frame line
+    accepted = read ∙ read_as true query_frame_lem
 
-  pub query_p : r.number ≡ 0 → r.p ≡ p_in line
-  query_p z = ap (λ (x : Reading). get_or x.fields 1 0) (accepted z)
+    pub query_measure : r.measure ≡ measure_in line
+    query_measure = ap (λ (x : Reading). get_or x.fields 0 0) accepted
 
-  pub query_q : r.number ≡ 0 → r.q ≡ q_in line
-  query_q z = ap (λ (x : Reading). get_or x.fields 2 0) (accepted z)
+    pub query_p : r.p ≡ p_in line
+    query_p = ap (λ (x : Reading). get_or x.fields 1 0) accepted
 
-  pub query_allowance : r.number ≡ 0 → r.allowance ≡ allowance_in line
-  query_allowance z = ap (λ (x : Reading). get_or x.fields 3 0) (accepted z)
+    pub query_q : r.q ≡ q_in line
+    query_q = ap (λ (x : Reading). get_or x.fields 2 0) accepted
 
-  query_len : r.number ≡ 0 → r.len ≡ length (query_in line)
-  query_len z = ap (λ (x : Reading). x.len) (accepted z)
+    pub query_allowance : r.allowance ≡ allowance_in line
+    query_allowance = ap (λ (x : Reading). get_or x.fields 3 0) accepted
 
-  query_left : r.number ≡ 0 → after ≡ query_in line ++ drop (length (query_in line)) buffer
-  query_left z =
-      left
-      ∙ unfold buffer_of in ap
-      (λ (n : ℕ). cond (eqb n 0) (name_in query_frame line ++ drop (length (name_in query_frame line)) buffer) buffer)
-      (ap (λ (x : Reading). x.number) (sym read) ∙ z)
+    query_len : r.len ≡ length (query_in line)
+    query_len = ap (λ (x : Reading). x.len) accepted
 
-  pub query_within : r.number ≡ 0 → r.len ≤ length after
-  query_within z =
-      let n = ap length (query_left z) in
-      let m = length-append (query_in line) (drop (length (query_in line)) buffer) in
-      let k = query_len z in
-      omega arith
+    query_left : after ≡ query_in line ++ drop (length (query_in line)) buffer
+    query_left =
+        left
+        ∙ unfold buffer_of in ap
+        (λ (x : Reading). cond (eqb x.number 0) (name_in query_frame line ++ drop (length (name_in query_frame line)) buffer) buffer)
+        (sym read)
 
-  pub query_bytes : r.number ≡ 0 → take r.len after ≡ query_in line
-  query_bytes z =
-      ap₂ (λ (k : ℕ) (l : List ℕ). take k l) (query_len z) (query_left z) ∙ take-append_seam (query_in line) (drop (length (query_in line)) buffer)
+    pub query_within : r.len ≤ length after
+    query_within =
+        let n = ap length query_left in
+        let m = length-append (query_in line) (drop (length (query_in line)) buffer) in
+        let k = query_len in
+        omega arith
+
+    pub query_bytes : take r.len after ≡ query_in line
+    query_bytes =
+        ap₂ (λ (k : ℕ) (l : List ℕ). take k l) query_len query_left ∙ take-append_seam (query_in line) (drop (length (query_in line)) buffer)
 
 -- ---- the rows that are shown
 
@@ -106,6 +110,38 @@ rows_same : (c d : Columns) (n : ℕ) → Agree c d n → rows_text c n ≡ rows
 unfolding Agree
 rows_same c d n e =
     ap joined (tabulate_ext (row_text c) (row_text d) n (λ k h. let g = e k h in λ t. row_line (g.0 t) (g.1 t) (g.2 t) (g.3 t)))
+
+-- the first n rows alone
+abbrev front : Columns → ℕ → Columns
+front c n = as_columns (take n c.ids) (take n c.shared) (take n c.sizes) (take n c.least)
+
+front_agrees : (c : Columns) (n : ℕ) → Agree (front c n) c n
+unfolding Agree
+front_agrees c n k h = (get_or-take n c.ids k 0 h, get_or-take n c.shared k 0 h, get_or-take n c.sizes k 0 h, get_or-take n c.least k 0 h)
+
+pub rows_front : (c : Columns) (n : ℕ) → Shown c n → rows_text (front c n) (length (take n c.ids)) ≡ rows_text c n
+rows_front c n s = ap (rows_text (front c n)) (length-take-le n c.ids s.in_ids) ∙ rows_same (front c n) c n (front_agrees c n)
+
+pub shown_front : (c : Columns) (n : ℕ) → Shown c n → Shown (front c n) (length (take n c.ids))
+unfolding Agree
+shown_front c n s =
+    let a = front_agrees c n in
+    let few = s.few in
+    let i = length-take-le n c.ids s.in_ids in
+    let h = length-take-le n c.shared s.in_shared in
+    let z = length-take-le n c.sizes s.in_sizes in
+    let l = length-take-le n c.least s.in_least in
+    record {
+      few = omega arith;
+      in_ids = omega arith;
+      in_shared = omega arith;
+      in_sizes = omega arith;
+      in_least = omega arith;
+      id = λ k b. (let m : k < n = omega arith in rw (a k m).0 (s.id k m));
+      share = λ k b. (let m : k < n = omega arith in rw (a k m).1 (s.share k m));
+      size = λ k b. (let m : k < n = omega arith in rw (a k m).2 (s.size k m));
+      least = λ k b. (let m : k < n = omega arith in rw (a k m).3 (s.least k m));
+    }
 
 text_agrees : (r : Answer) (c d : Columns) → (number_in r ≡ 0 → Agree c d (rows_in r)) → answer_text r c ≡ answer_text r d
 unfolding answer_text found_text

@@ -23,8 +23,8 @@ use Rattle.fields.proofs.Laws.{frame_line}
 use Rattle.frames.specs.Frames.{query_frame, row_frame, end_frame, refusal_frame}
 use Rattle.lines.specs.Lines.{lines_of, joined}
 use Rattle.search.specs.Answers.{Columns}
-use Rattle.search.specs.declared.Answer.{Answer}
-use Rattle.search.specs.declared.Answer.TheVariants.{Found, Refused}
+use Rattle.search.specs.Answers.{Answer}
+use Rattle.search.specs.Answers.{Found, Refused}
 use Rattle.answers.specs.Output.{row_line, end_line, refusal_line, row_text, rows_text, found_text, answer_text, search_for, columns_for, answer_of, ends_answer, answer_lines, queries_of, opened_of, open_words, program_words, answers_text, output_of}
 use Rattle.lines.proofs.Cut.{Line, Ended, lines_joined, joined_append, ended_behind, ended_each, broken_fewer}
 use Rattle.fields.proofs.Fitted.{one_line}

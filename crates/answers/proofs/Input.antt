@@ -1,97 +1,71 @@
 -- The register and the queries of an input: where the first line that begins with 51 starts.
 -- Assumes nothing.
-use mathlib.Core.Path.{◌≡◌, refl, ap, ap₂, ◌∙◌}
-use mathlib.Core.Bool.{Bool, true, false, cond, ◌&&◌}
+use mathlib.Core.Path.{◌≡◌, refl, sym, ap, ap₂, ◌∙◌}
+use mathlib.Core.Bool.{Bool, true, false, cond, ◌&&◌, and-true}
 use mathlib.Core.List.{List, [], ◌∷◌, ◌++◌}
-use Prim.Native.Nat.{ℕ, suc, ◌+◌, ◌-◌, ◌≤◌, ◌<◌}
-use native.Mathlib.Nat.{add-zero}
+use Prim.Native.Nat.{ℕ, ◌+◌, ◌≤◌, ◌<◌, min}
 use native.Mathlib.Omega.{arith}
-use lib.ListN.{length, get_or, take, drop, replicate, length-append, length-drop, drop_of_length-le, get_or-eq_default}
-use lib.Seq.{length-take-le, drop-drop, get_or-drop}
+use lib.ListN.{length, take, drop, replicate, length-append}
+use lib.Seq.{take_at, drop_at}
 use lib.Dec.{eqb, ltb}
-use borrow.Author.Tests.{eq-eqb, ne_eqb, eqb-true, lt-ltb, le-ltb}
-use Rattle.laws.proofs.Below.{and_false_right}
+use lib.Pointwise.{pointwise}
+use borrow.Author.Tests.{eq-eqb, ne_eqb, eqb-true, eqb-false, lt-ltb, le-ltb}
 use Rattle.index.specs.Good.{Good, good_of}
 use Rattle.index.proofs.Laws.{refused_not_good}
-use Rattle.lines.specs.Lines.{lines_of, line_length, line_feed, joined}
-use Rattle.lines.proofs.Lines.{lines_nil, lines_step, line_within, joined_lines}
+use Rattle.lines.specs.Lines.{lines_of, line_length, joined}
+use Rattle.lines.proofs.Lines.{lines_nil, lines_step, joined_lines, is_feed, line_cut}
+use Rattle.std.specs.List.{IsFirstMatchOrLen}
+use Rattle.laws.proofs.Lists.{length_nil}
 use Rattle.register.proofs.Laws.{accepted_good, refused_bad}
 use Rattle.index_writer.specs.Written.{blank}
 use Rattle.register.specs.Build.{built_of, words_after}
-use Rattle.register.specs.declared.Built.{Built}
-use Rattle.answers.specs.declared.Opened.{Opened}
+use Rattle.register.specs.Build.{Built}
+use Rattle.answers.specs.Output.{Opened}
 use Rattle.answers.specs.Output.{begins, bytes_before, register_end, most_input, opened_of, open_words}
 
--- bytes begin with 51 exactly if their first line does
-pub begins_line : (s : List ℕ) → begins (take (line_length s) s) ≡ begins s
-unfolding begins line_length
-begins_line [] = refl
-begins_line (a ∷ []) = by_feed (eqb a line_feed)
+-- as the code tests it
+same_test : (a b : ℕ) → eqb a b ≡ eqb b a
+same_test a b = by_test (eqb a b) refl
   where
-    by_feed : (t : Bool) → eqb (get_or (take (1 + cond t 0 0) (a ∷ [])) 0 0) 53 && eqb (get_or (take (1 + cond t 0 0) (a ∷ [])) 1 0) 49 ≡ eqb a 53 && eqb 0 49
-    by_feed true = refl
-    by_feed false = refl
-begins_line (a ∷ b ∷ s) = by_feed (eqb a line_feed) refl
-  where
-    fives : eqb a line_feed ≡ true → eqb a 53 ≡ false
-    fives e = ne_eqb a 53 (λ h. let g = eqb-true a line_feed e in omega arith)
+    by_test : (t : Bool) → eqb a b ≡ t → t ≡ eqb b a
+    by_test true e = sym (eq-eqb b a (sym (eqb-true a b e)))
+    by_test false e = sym (ne_eqb b a (λ h. eqb-false a b e (sym h)))
 
-    by_second : (t : Bool) → eqb (get_or (take (1 + (1 + cond t 0 (line_length s))) (a ∷ b ∷ s)) 0 0) 53 && eqb (get_or (take (1 + (1 + cond t 0 (line_length s))) (a ∷ b ∷ s)) 1 0) 49 ≡ eqb a 53 && eqb b 49
-    by_second true = refl
-    by_second false =
-        let q : 1 + (1 + line_length s) ≡ suc (suc (line_length s)) = omega arith in
-        rw q refl
-
-    by_feed : (t : Bool) → eqb a line_feed ≡ t
-        → eqb (get_or (take (1 + cond t 0 (1 + cond (eqb b line_feed) 0 (line_length s))) (a ∷ b ∷ s)) 0 0) 53
-        && eqb (get_or (take (1 + cond t 0 (1 + cond (eqb b line_feed) 0 (line_length s))) (a ∷ b ∷ s)) 1 0) 49
-        ≡ eqb a 53 && eqb b 49
-    by_feed true e = rw (fives e) refl
-    by_feed false e = by_second (eqb b line_feed)
-
--- at a place of the input
-begins_at : (s : List ℕ) (at : ℕ) → begins (drop at s) ≡ eqb (get_or s at 0) 53 && eqb (get_or s (at + 1) 0) 49
+pub begins_tested : (s : List ℕ) → pointwise eqb (53 ∷ 49 ∷ []) (take 2 s) ≡ begins s
 unfolding begins
-begins_at s at =
-    ap₂ (λ (x y : ℕ). eqb x 53 && eqb y 49) (get_or-drop at s 0 0 ∙ ap (λ (k : ℕ). get_or s k 0) (add-zero at)) (get_or-drop at s 1 0)
-
-pub begins_short : (s : List ℕ) (at : ℕ) → length s - at < 2 → begins (drop at s) ≡ false
-begins_short s at h = begins_at s at ∙ ap (λ (y : ℕ). eqb (get_or s at 0) 53 && eqb y 49) (get_or-eq_default s 0 {n = at + 1} (omega arith)) ∙ and_false_right (eqb (get_or s at 0) 53) false refl
-
-pub begins_other : (s : List ℕ) (at : ℕ) → (get_or s at 0 ≡ 53 → ⊥) → begins (drop at s) ≡ false
-begins_other s at n = begins_at s at ∙ rw (ne_eqb (get_or s at 0) 53 n)
-
-pub begins_second : (s : List ℕ) (at : ℕ) → get_or s at 0 ≡ 53 → begins (drop at s) ≡ eqb (get_or s (at + 1) 0) 49
-begins_second s at e = begins_at s at ∙ rw (eq-eqb (get_or s at 0) 53 e)
+begins_tested [] = refl
+begins_tested (a ∷ []) = ap (λ (t : Bool). t && false) (same_test 53 a)
+begins_tested (a ∷ b ∷ s) = ap₂ (λ (t u : Bool). t && u) (same_test 53 a) (and-true (eqb 49 b) ∙ same_test 49 b)
 
 -- ---- the end of the register
 
-pub end_first : (s : List ℕ) → 0 + bytes_before (lines_of (drop 0 s)) ≡ register_end s
+pub end_first : (s : List ℕ) → 0 + bytes_before (lines_of s) ≡ register_end s
 unfolding register_end
 end_first s = omega arith
 
 -- at the end of the input nothing is left
-pub end_nil : (s : List ℕ) (at : ℕ) → length s ≤ at → bytes_before (lines_of (drop at s)) ≡ 0
+pub end_nil : (s : List ℕ) → length s ≡ 0 → bytes_before (lines_of s) ≡ 0
 unfolding bytes_before
-end_nil s at h = ap (λ (l : List ℕ). bytes_before (lines_of l)) (drop_of_length-le s {i = at} h) ∙ ap bytes_before lines_nil
+end_nil s h = ap (λ (l : List ℕ). bytes_before (lines_of l)) (length_nil s h) ∙ ap bytes_before lines_nil
 
--- a line that begins with 51 ends the register
-pub end_met : (s : List ℕ) (at : ℕ) → at < length s → begins (drop at s) ≡ true → bytes_before (lines_of (drop at s)) ≡ 0
+-- a first line that begins with 51 ends the register, and any other belongs to it
+pub end_line : (rest line more : List ℕ) (i : ℕ) → rest ≡ line ++ more → length line ≡ min (i + 1) (length rest) → IsFirstMatchOrLen is_feed rest i → 0 < length rest
+    → bytes_before (lines_of rest) ≡ cond (begins line) 0 (length line + bytes_before (lines_of more))
 unfolding bytes_before
-end_met s at h b =
-    let n = length-drop at s in
-    ap bytes_before (lines_step (drop at s) (omega arith)) ∙ rw (begins_line (drop at s), b) refl
+end_line rest line more i e l f h =
+    let n : length line ≡ line_length rest = l ∙ line_cut rest i f in
+    ap bytes_before (lines_step rest h)
+    ∙ ap₂ (λ (x y : List ℕ). bytes_before (x ∷ lines_of y))
+    (ap (take (line_length rest)) e ∙ take_at line more (line_length rest) n)
+    (ap (drop (line_length rest)) e ∙ drop_at line more (line_length rest) n)
 
--- any other belongs to it
-pub end_passed : (s : List ℕ) (at : ℕ) → at < length s → begins (drop at s) ≡ false
-    → bytes_before (lines_of (drop at s)) ≡ line_length (drop at s) + bytes_before (lines_of (drop (at + line_length (drop at s)) s))
-unfolding bytes_before
-end_passed s at h b =
-    let n = length-drop at s in
-    let w = line_within s at (omega arith) in
-    let l : length (take (line_length (drop at s)) (drop at s)) ≡ line_length (drop at s) = length-take-le (line_length (drop at s)) (drop at s) (omega arith) in
-    ap bytes_before (lines_step (drop at s) (omega arith))
-    ∙ rw (begins_line (drop at s), b) (ap₂ ◌+◌ l (ap (λ (r : List ℕ). bytes_before (lines_of r)) (drop-drop (line_length (drop at s)) at s)))
+pub end_met : (rest line more : List ℕ) (i : ℕ) → rest ≡ line ++ more → length line ≡ min (i + 1) (length rest) → IsFirstMatchOrLen is_feed rest i → 0 < length rest
+    → begins line ≡ true → bytes_before (lines_of rest) ≡ 0
+end_met rest line more i e l f h b = end_line rest line more i e l f h ∙ ap (λ (t : Bool). cond t 0 (length line + bytes_before (lines_of more))) b
+
+pub end_passed : (rest line more : List ℕ) (i : ℕ) → rest ≡ line ++ more → length line ≡ min (i + 1) (length rest) → IsFirstMatchOrLen is_feed rest i → 0 < length rest
+    → begins line ≡ false → bytes_before (lines_of rest) ≡ length line + bytes_before (lines_of more)
+end_passed rest line more i e l f h b = end_line rest line more i e l f h ∙ ap (λ (t : Bool). cond t 0 (length line + bytes_before (lines_of more))) b
 
 -- ---- opening
 

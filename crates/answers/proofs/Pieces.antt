@@ -9,13 +9,14 @@ use lib.ListN.{length, take, drop, replicate, length-append, length-drop, length
 use lib.Seq.{drop-drop, take_at, drop_at}
 use lib.Dec.{ltb}
 use borrow.Author.Tests.{ltb-false}
-use Rattle.fields.specs.declared.Written.{Written}
+use Rattle.fields.specs.Layouts.{Written}
 use Rattle.lines.specs.Lines.{lines_of, line_length}
 use Rattle.index_writer.specs.Written.{blank}
 use Rattle.register.specs.Build.{built_of}
 use Rattle.register.proofs.Names.{same_build}
-use Rattle.answers.specs.declared.Opened.{Opened}
-use Rattle.answers.specs.Output.{most_input, register_end, register_of, program_words, longest_answer, opened_of, open_words, answer_of, line_text, responded_of, answers_text, output_of}
+use Rattle.std.proofs.Common.{Ok}
+use Rattle.answers.specs.declared.Opening.{Opening}
+use Rattle.answers.specs.Output.{Opened, opened_in, most_input, register_end, register_of, program_words, longest_answer, opened_of, open_words, answer_of, line_text, responded_of, answers_text, output_of}
 use Rattle.fields.proofs.Fitted.{fitting_whole}
 use Rattle.answers.proofs.Reading.{answer_most}
 use Rattle.answers.proofs.Responding.{text_first, text_end, output_opened}
@@ -82,6 +83,10 @@ words_lent input words e =
     let l : length words ≡ length {A = ℕ} (replicate program_words 0) = e ∙ sym (length-replicate {A = ℕ} program_words 0) in
     ap₂ (λ (n : ℕ) (after : List ℕ). cond (ltb most_input (length input)) (replicate n blank) after) l
     (same_build (register_of input) words (replicate program_words 0) l).1
+
+-- an opening whose index was built has number 0
+pub opening_ok : {x : Unit {0}} (o : Opening) → o.built ≡ Ok x → (opened_in o).number ≡ 0
+opening_ok o e = rw e refl
 
 -- an input that is opened is not too much, and its queries begin where its register ends
 pub opened_few : (input : List ℕ) (room : ℕ) → (opened_of input room).number ≡ 0 → (length input ≤ most_input) × ((opened_of input room).at ≡ register_end input)

@@ -15,15 +15,12 @@ use Rattle.likeness.proofs.Terms.{lowest_good}
 use Rattle.hex_digits.specs.Lines.{hex_of, hex_line}
 use Rattle.hex_digits.specs.Numbers.{bytes_for}
 use Rattle.fields.specs.Layouts.{line_of, field_bytes, name_bytes, is_frame, read_of}
-use Rattle.frames.specs.declared.RowRead.TheVariants.{Row}
-use Rattle.frames.specs.declared.EndRead.TheVariants.{End}
-use Rattle.frames.specs.declared.RefusalRead.TheVariants.{Refusal}
-use Rattle.frames.specs.Frames.{query_frame, row_frame, end_frame, refusal_frame, row_out, end_out, refusal_out, refusal_line_length}
+use Rattle.frames.specs.Frames.{query_frame, row_frame, end_frame, refusal_frame, row_out, end_out, refusal_out, a_row, an_end, a_refusal, refusal_line_length}
 use Rattle.frames.proofs.RoundTrips.{read_write_row, read_write_end, read_write_refusal}
 use Rattle.sizes.specs.Method.{touches_of, answers_of}
 use Rattle.search.specs.Answers.{number_in, rows_in, Columns}
-use Rattle.search.specs.declared.Answer.{Answer}
-use Rattle.search.specs.declared.Answer.TheVariants.{Found, Refused}
+use Rattle.search.specs.Answers.{Answer}
+use Rattle.search.specs.Answers.{Found, Refused}
 use Rattle.search.proofs.Outcomes.{refused_empty, answered}
 use Rattle.answers.specs.Output.{end_line, refusal_line, row_text, answer_text, rows_lent, longest_answer, query_in, measure_in, p_in, q_in, allowance_in, search_for, columns_for, answer_of}
 use Rattle.answers.specs.Rows.{Shown}
@@ -32,7 +29,7 @@ use Rattle.answers.proofs.Text.{length_found}
 -- ---- each line reads back
 
 pub reads_row : (c : Columns) (n : ℕ) → Shown c n → (k : ℕ) → k < n
-    → read_of row_frame (row_text c k) 0 ≡ row_out (Row (get_or c.ids k 0) (get_or c.shared k 0) (get_or c.sizes k 0) (get_or c.least k 0))
+    → read_of row_frame (row_text c k) 0 ≡ row_out (a_row (get_or c.ids k 0) (get_or c.shared k 0) (get_or c.sizes k 0) (get_or c.least k 0))
 reads_row c n s k h = read_write_row (get_or c.ids k 0) (get_or c.shared k 0) (get_or c.sizes k 0) (get_or c.least k 0) (s.id k h) (s.share k h) (s.size k h) (s.least k h)
 
 -- the end of an answered search, whose allowance fits 32 bits
@@ -41,7 +38,7 @@ pub reads_end : (w line : List ℕ) → allowance_in line < 4294967296 → numbe
     let t = touches_of w (measure_in line) (p_in line) (q_in line) (features_of (query_in line)) in
     let a = (lowest_terms (p_in line) (q_in line)).p in
     let b = (lowest_terms (p_in line) (q_in line)).q in
-    (search_for w line ≡ Found n t a b) × (read_of end_frame (end_line n t a b) 0 ≡ end_out (End n t a b))
+    (search_for w line ≡ Found n t a b) × (read_of end_frame (end_line n t a b) 0 ≡ end_out (an_end n t a b))
 reads_end w line f z =
     let k = answered (query_in line) (measure_in line) (p_in line) (q_in line) (allowance_in line) w rows_lent z in
     let few = k.fits in
@@ -52,7 +49,7 @@ reads_end w line f z =
     (k.form, read_write_end _ _ _ _ (omega arith) (omega arith) (omega arith) (omega arith))
 
 pub reads_refusal : (number touches : ℕ) → number < 256 → touches < 4294967296
-    → read_of refusal_frame (refusal_line number touches) 0 ≡ refusal_out (Refusal number touches)
+    → read_of refusal_frame (refusal_line number touches) 0 ≡ refusal_out (a_refusal number touches)
 reads_refusal number touches h k = read_write_refusal number touches h k
 
 -- ---- how long an answer is at most

@@ -10,7 +10,7 @@ use native.Mathlib.Omega.{arith}
 use lib.ListN.{length, take, drop, length-drop, replicate, drop_of_length-le}
 use lib.Seq.{drop-drop}
 use borrow.Author.Tests.{eq-eqb, ne_eqb, lt-ltb, le-ltb}
-use Rattle.fields.specs.declared.Written.{Written}
+use Rattle.fields.specs.Layouts.{Written}
 use Rattle.lines.specs.Lines.{lines_of, line_length}
 use Rattle.lines.proofs.Lines.{line_some, lines_nil, lines_step, length_line_end}
 use Rattle.fields.specs.Fitted.{fitting_of, fitted_of}

@@ -3,17 +3,15 @@
 use Rattle.std.specs.Prelude.{Bool, cond, ◌&&◌, ◌||◌, List, [], ◌∷◌, ◌++◌, ℕ, ◌+◌, ◌*◌, length, get_or, take, drop, replicate, eqb, ltb}
 use Rattle.laws.specs.Lists.{tabulate}
 use Rattle.names.specs.Features.{features_of}
-use Rattle.fields.specs.Layouts.{is_frame, fields_in, name_in, line_of}
+use Rattle.fields.specs.Layouts.{is_frame, fields_in, name_in, line_of, written_in}
 use Rattle.fields.specs.Fitted.{fitting_of}
 use Rattle.frames.specs.Frames.{query_frame, row_frame, end_frame, refusal_frame, row_line_length, end_line_length}
 use Rattle.lines.specs.Lines.{lines_of, line_length, joined}
 use Rattle.index_writer.specs.Written.{blank}
-use Rattle.register.specs.Build.{built_of, words_after}
-use Rattle.search.specs.Answers.{search_of, Columns, columns_of, places_given}
-use Rattle.search.specs.declared.Answer.{Answer}
-use Rattle.search.specs.declared.Answer.TheVariants.{Found, Refused}
-use Rattle.answers.specs.declared.Opened.{Opened}
-use Rattle.answers.specs.declared.Response.{Response}
+use Rattle.register.specs.Build.{built_in, built_of, words_after}
+use Rattle.search.specs.Answers.{Answer, Found, Refused, search_of, Columns, columns_of, places_given}
+use Rattle.answers.specs.declared.Opening.{Opening}
+use Rattle.answers.specs.declared.Responded.{Responded}
 
 -- ---- the register and the queries
 
@@ -43,7 +41,17 @@ queries_of input = lines_of (drop (register_end input) input)
 abbrev pub most_input : ℕ
 most_input = 65536
 
--- what opening answers: 8 for too much input, judged first, or the build's number and line; and where the queries begin
+-- what opening answers: a number, the first bad line of the register, from 1, or 0, and where the queries begin
+pub record Opened : Type 0 where
+  pub number : ℕ
+  pub line : ℕ
+  pub at : ℕ
+
+-- what the code answers, set out: as the build's answer is, and where the queries begin
+abbrev pub opened_in : Opening → Opened
+opened_in o = record { number = (built_in o.built).number; line = (built_in o.built).line; at = o.at }
+
+-- 8 for too much input, judged first, or the build's number and line; and where the queries begin
 unfoldable pub opened_of : List ℕ → ℕ → Opened
 opened_of input room =
     cond (ltb most_input (length input))
@@ -132,7 +140,17 @@ answer_of w line = cond (is_frame query_frame line) (answer_text (search_for w l
 unfoldable pub line_text : List ℕ → List ℕ → ℕ → List ℕ
 line_text w input at = cond (ltb at (length input)) (answer_of w (take (line_length (drop at input)) (drop at input))) []
 
--- what answering that line answers: as its lines fit the room, and where the next line starts
+-- what answering a line answers: a number and how many bytes, as writing does, and where the next line starts
+pub record Response : Type 0 where
+  pub number : ℕ
+  pub len : ℕ
+  pub next : ℕ
+
+-- what the code answers, set out
+abbrev pub responded_in : Responded → Response
+responded_in r = record { number = (written_in r.written).number; len = (written_in r.written).len; next = r.next }
+
+-- of that line: as its lines fit the room
 unfoldable pub responded_of : List ℕ → List ℕ → ℕ → ℕ → Response
 responded_of w input at room =
     record {

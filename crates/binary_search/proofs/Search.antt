@@ -4,7 +4,7 @@ use mathlib.Core.Path.{◌≡◌, refl, sym, ap, ◌∙◌}
 use mathlib.Core.Logic.{⊎_elim}
 use mathlib.Core.Bool.{Bool, true, false, cond}
 use mathlib.Core.List.{List}
-use Prim.Native.Nat.{ℕ, ◌*◌, ◌≤◌, ◌<◌}
+use Prim.Native.Nat.{ℕ, ◌+◌, ◌-◌, ◌*◌, ◌^◌, ◌≤◌, ◌<◌}
 use native.Mathlib.Nat.{eq-or-lt_of_le, zero-add, one-mul}
 use native.Mathlib.Omega.{arith}
 use lib.ListN.{length, get_or}
@@ -12,7 +12,7 @@ use lib.Dec.{ltb, eqb}
 use borrow.Author.Tests.{lt-ltb, le-ltb, ltb-true, ltb-false, eqb-true, eqb-false}
 use Rattle.laws.specs.Lists.{member, Ascending, count_of}
 use Rattle.laws.proofs.Ascending.{ascending_at, member_get_d, member_nowhere}
-use Rattle.laws.proofs.BinarySearch.{Falling, falling_count, count_index, count_below_place}
+use Rattle.laws.proofs.BinarySearch.{Stretch, digit_within, Falling, falling_count, count_index, count_below_place}
 use Rattle.laws.specs.Below.{count_below}
 use Rattle.laws.proofs.Below.{sum_below_ext}
 use Rattle.laws.proofs.Order.{le_or_lt}
@@ -121,3 +121,18 @@ count_column l x =
     sum_below_ext (length l) (λ (i : ℕ). cond (ltb (column_at l 0 1 i) x) 1 0) (λ (i : ℕ). cond (ltb (get_or l i 0) x) 1 0)
     (λ i h. ap (λ (v : ℕ). cond (ltb v x) 1 0) (column_list l i))
     ∙ sym (count_index (λ (y : ℕ). ltb y x) l)
+
+-- ---- the numbers that a search asks
+
+-- the first, where the numbers are not one less than p, which is the power of two within their count and one
+pub asked_first : (len first width n p q : ℕ) → ((i : ℕ) → i < n → first + width * i < len) → 0 < q → p ≡ q → 0 < n + 1 - p
+    → first + width * (n + 1 - p - 1) < len
+asked_first len first width n p q h a e r = h (n + 1 - p - 1) (omega arith)
+
+-- and the one of each turn
+pub asked : (b : ℕ → Bool) (n base k p len first width : ℕ) → 0 < k → Stretch b n base (2 ^ k - 1) → p ≡ 2 ^ (k - 1)
+    → ((i : ℕ) → i < n → first + width * i < len) → (base + p - 1 < n) × (first + width * (base + p - 1) < len)
+asked b n base k p len first width q s e h =
+    let d = digit_within b n base k q s in
+    let i : base + p - 1 < n = omega arith in
+    (i, h (base + p - 1) i)

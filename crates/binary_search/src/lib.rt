@@ -31,14 +31,6 @@ pub fn one_if(b: bool) -> usize
     b as usize
 }
 
-// The place of the highest digit of a number above 0, counted from 0.
-fn highest(n: usize) -> u32
-    requires { 0 < n }
-    ensures { (result < 64) × (2 ^ result ≤ n) × (n < 2 * 2 ^ result) }
-{
-    63 - u64::leading_zeros(n as u64)
-}
-
 // How many of n words are below x: those of a column, the words `width` apart from `first` on, none above a later one. Words are compared as
 // 32 bits, which is quicker, and all of them are below an x that does not fit.
 pub fn place_in_column(words: &[u32], first: usize, width: usize, n: usize, x: u64) -> usize
@@ -49,16 +41,13 @@ pub fn place_in_column(words: &[u32], first: usize, width: usize, n: usize, x: u
         return n;
     }
     let y = x as u32;
-    let mut k = highest(n + 1);
-    let rest = n + 1 - power(k);
+    let top = (n + 1).ilog2();
+    let rest = n + 1 - power(top);
     let mut base: usize = 0;
-    if 0 < rest {
-        if words[first + width * (rest - 1)] < y {
-            base = rest;
-        }
+    if 0 < rest && words[first + width * (rest - 1)] < y {
+        base = rest;
     }
-    while 0 < k {
-        k -= 1;
+    for k in (0..top).rev() {
         let at = base + power(k) - 1;
         base += power_if(words[first + width * at] < y, k);
     }
@@ -89,10 +78,8 @@ pub fn seat_in(list: &[u32], x: u32) -> Seat
     ensures { result ≡ seat_of list.now x }
 {
     let at = place_in_column(list, 0, 1, list.len(), x as u64);
-    if at < list.len() {
-        if list[at] == x {
-            return Seat::At(at);
-        }
+    if at < list.len() && list[at] == x {
+        return Seat::At(at);
     }
     Seat::Before(at)
 }
@@ -102,10 +89,8 @@ pub fn seat_near(list: &[u32], x: u32, guess: usize) -> Seat
     requires { Ascending list.now }
     ensures { result ≡ seat_of list.now x }
 {
-    if guess < list.len() {
-        if list[guess] == x {
-            return Seat::At(guess);
-        }
+    if guess < list.len() && list[guess] == x {
+        return Seat::At(guess);
     }
     seat_in(list, x)
 }

@@ -2,10 +2,11 @@
 // The rule: docs/RULE.md, "The counted search"; the definitions: specs/.
 #![tactic(auto)]
 
-ghost use Rattle.std.specs.Prelude.{◌≡◌, cond, ℕ, ◌+◌, ◌*◌, ◌/◌, ◌%◌, ◌≤◌, ◌<◌, length, get_or};
+ghost use Rattle.std.specs.Prelude.{◌≡◌, true, false, cond, MatchOption, ℕ, ◌+◌, ◌*◌, ◌/◌, ◌%◌, ◌≤◌, ◌<◌, length, get_or};
 ghost use Rattle.laws.specs.Lists.{Ascending, member};
 ghost use Rattle.names.specs.Features.{most_features};
 ghost use Rattle.index.specs.Good.{most_names};
+ghost use Rattle.candidates.specs.Spending.{past_in, spent_in};
 ghost use Rattle.candidates.specs.Tables.{Known, MetBy, no_counts, tallied, tested, kept, cut_at, cut_lists, Readable, remain_table, Gathered, Narrowed, Walked};
 
 use binary_search::Seat;
@@ -20,9 +21,8 @@ fn tally(ids: &[u32], list: &[u32], counts: &mut [u32], met: &mut [usize], alrea
 {
     let mut m = already;
     let mut next = 0;
-    let mut k = 0;
-    while k < list.len() {
-        let seat = binary_search::seat_near(ids, list[k], next);
+    for id in list {
+        let seat = binary_search::seat_near(ids, *id, next);
         let i = binary_search::place_of(seat);
         next = i + 1;
         let count = counts[i];
@@ -31,7 +31,6 @@ fn tally(ids: &[u32], list: &[u32], counts: &mut [u32], met: &mut [usize], alrea
             m += 1;
         }
         counts[i] = count + 1;
-        k += 1;
     }
     m
 }
@@ -73,13 +72,11 @@ fn sift(
 {
     let mut m = 0;
     let mut next = 0;
-    let mut k = 0;
-    while k < already {
+    for k in 0..already {
         let i = met[k];
         let test = counted(list, ids[i], counts[i], next);
         let count = test.count;
         next = test.next;
-        k += 1;
         if count < needed {
             counts[i] = 0;
         } else {
@@ -107,15 +104,14 @@ fn list_in<'a>(words: &'a [u32], keys: &[u64], starts: &[usize], k: usize) -> &'
 
 // ---- the two phases of a size
 
-// What a phase has come to: past the budget, or so many touches and so many met.
+// What a phase has come to: so many touches and so many met.
 #[derive(Clone, Copy)]
 struct Walk {
-    past: bool,
     touches: usize,
     met: usize,
 }
 
-// The signature lists, tallied: each posting is a touch.
+// The signature lists, tallied: each posting is a touch. `None` where they are more than the budget.
 fn gather(
     words: &[u32],
     ids: &[u32],
@@ -125,35 +121,25 @@ fn gather(
     budget: usize,
     counts: &mut [u32],
     met: &mut [usize],
-) -> Walk
+) -> Option<Walk>
     requires ids_len_bound { (length ids.now ≤ most_names) × Ascending ids.now × Readable words.now ids.now keys.now starts.now × (signatures ≤ length keys.now) × (length keys.now ≤ most_features) }
     requires counts_value { (counts.old ≡ no_counts) × (length met.old ≡ most_names) }
-    ensures { Gathered ids.now (cut_lists words.now keys.now starts.now) signatures budget counts.new met.new result.past result.touches result.met }
+    ensures { MatchOption result (Gathered ids.now (cut_lists words.now keys.now starts.now) signatures budget counts.new met.new true 0 0) (λ walk. Gathered ids.now (cut_lists words.now keys.now starts.now) signatures budget counts.new met.new false walk.touches walk.met) }
 {
     let mut m = 0;
     let mut touches = 0;
-    let mut k = 0;
-    while k < signatures {
+    for k in 0..signatures {
         let list = list_in(words, keys, starts, k);
         if budget - touches < list.len() {
-            return Walk {
-                past: true,
-                touches: 0,
-                met: 0,
-            };
+            return None;
         }
         touches += list.len();
         m = tally(ids, list, counts, met, m);
-        k += 1;
     }
-    Walk {
-        past: false,
-        touches,
-        met: m,
-    }
+    Some(Walk { touches, met: m })
 }
 
-// The later lists: each candidate that remains is tested once, a touch each.
+// The later lists: each candidate that remains is tested once, a touch each. `None` where they are more than the budget.
 fn narrow(
     words: &[u32],
     ids: &[u32],
@@ -164,33 +150,23 @@ fn narrow(
     counts: &mut [u32],
     met: &mut [usize],
     already: usize,
-) -> Walk
+) -> Option<Walk>
     requires ids_len_bound { (length ids.now ≤ most_names) × Readable words.now ids.now keys.now starts.now × (length keys.now ≤ most_features) × (1 ≤ least) × (least ≤ length keys.now) }
     requires counts_value { (counts.old ≡ remain_table ids.now (cut_lists words.now keys.now starts.now) least 0) × (length met.old ≡ most_names) × MetBy counts.old met.old already }
-    ensures { Narrowed ids.now (cut_lists words.now keys.now starts.now) least budget counts.new met.new result.past result.touches result.met }
+    ensures { MatchOption result (Narrowed ids.now (cut_lists words.now keys.now starts.now) least budget counts.new met.new true 0 0) (λ walk. Narrowed ids.now (cut_lists words.now keys.now starts.now) least budget counts.new met.new false walk.touches walk.met) }
 {
     let x = keys.len();
     let mut m = already;
     let mut touches = 0;
-    let mut k = x - least + 1;
-    while k < x {
+    for k in x - least + 1..x {
         if budget - touches < m {
-            return Walk {
-                past: true,
-                touches: 0,
-                met: 0,
-            };
+            return None;
         }
         touches += m;
         let list = list_in(words, keys, starts, k);
         m = sift(ids, list, counts, met, m, (least - (x - k - 1)) as u32);
-        k += 1;
     }
-    Walk {
-        past: false,
-        touches,
-        met: m,
-    }
+    Some(Walk { touches, met: m })
 }
 
 // ---- both phases
@@ -200,24 +176,14 @@ fn keep(counts: &mut [u32], met: &[usize], m: usize, answers: &mut [u32])
     requires { (length counts.old ≡ most_names) × MetBy counts.old met.now m × (length answers.old ≡ most_names) }
     ensures { (answers.new ≡ kept counts.old answers.old) × (counts.new ≡ no_counts) }
 {
-    let mut k = 0;
-    while k < m {
-        let i = met[k];
+    for &i in &met[..m] {
         answers[i] = counts[i];
         counts[i] = 0;
-        k += 1;
     }
 }
 
-// What a size has come to: past the budget, or so many touches.
-#[derive(Clone, Copy)]
-pub struct Spent {
-    pub past: bool,
-    pub touches: usize,
-}
-
-// The two phases over lists in order, and what is left kept among the answers. The counts and the places met are tables that the caller has
-// made once: the counts come and go as 0.
+// The two phases over lists in order, and what is left kept among the answers. Answers how many touches they are, `None` where those are more than the
+// budget. The counts and the places met are tables that the caller has made once: the counts come and go as 0.
 pub fn walk_lists(
     words: &[u32],
     ids: &[u32],
@@ -228,50 +194,24 @@ pub fn walk_lists(
     counts: &mut [u32],
     met: &mut [usize],
     answers: &mut [u32],
-) -> Spent
+) -> Option<usize>
     requires ids_len_bound { (length ids.now ≤ most_names) × Ascending ids.now × Readable words.now ids.now keys.now starts.now × (length keys.now ≤ most_features) × (1 ≤ least) × (least ≤ length keys.now) × (length answers.old ≡ most_names) }
     requires counts_value { (counts.old ≡ no_counts) × (length met.old ≡ most_names) }
-    ensures { Walked ids.now (cut_lists words.now keys.now starts.now) least budget answers.old answers.new counts.new result.past result.touches }
+    ensures { Walked ids.now (cut_lists words.now keys.now starts.now) least budget answers.old answers.new counts.new (past_in result) (spent_in result) }
 {
-    let first = gather(
-        words,
-        ids,
-        keys,
-        starts,
-        keys.len() - least + 1,
-        budget,
-        counts,
-        met,
-    );
-    if first.past {
-        return Spent {
-            past: true,
-            touches: 0,
-        };
-    }
-    let touches = first.touches;
-    let already = first.met;
+    let signatures = keys.len() - least + 1;
+    let first = gather(words, ids, keys, starts, signatures, budget, counts, met)?;
     let then = narrow(
         words,
         ids,
         keys,
         starts,
         least,
-        budget - touches,
+        budget - first.touches,
         counts,
         met,
-        already,
-    );
-    if then.past {
-        return Spent {
-            past: true,
-            touches: 0,
-        };
-    }
-    let m = then.met;
-    keep(counts, met, m, answers);
-    Spent {
-        past: false,
-        touches: touches + then.touches,
-    }
+        first.met,
+    )?;
+    keep(counts, met, then.met, answers);
+    Some(first.touches + then.touches)
 }

@@ -12,7 +12,7 @@ use Rattle.laws.specs.Lists.{sum_of}
 use Rattle.hex_digits.specs.Lines.{bytes_of}
 use Rattle.hex_digits.specs.Numbers.{number_of}
 use Rattle.fields.specs.declared.Layout.{Layout}
-use Rattle.fields.specs.declared.Reading.{Reading}
+use Rattle.fields.specs.Layouts.{Reading}
 use Rattle.fields.specs.Layouts.{head_size, tail_size, laid_out, is_frame, fields_of, fields_in, name_in, accepted_as, refused_with, read_of, buffer_of}
 use Rattle.fields.proofs.Layouts.{most, length_read, plain_len, plain_eleven}
 

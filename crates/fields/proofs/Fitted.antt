@@ -15,7 +15,7 @@ use Rattle.lines.proofs.Cut.{NoFeed, Line}
 use Rattle.hex_digits.specs.Lines.{digits, digit_of, hex_of, hex_line}
 use Rattle.fields.specs.Layouts.{field_bytes, name_bytes, line_of, written_of, out_of}
 use Rattle.fields.specs.Fitted.{fitting_of, fitted_of}
-use Rattle.fields.specs.declared.Written.{Written}
+use Rattle.fields.specs.Layouts.{Written}
 use Rattle.fields.specs.declared.Layout.{Layout}
 
 -- ---- texts that fit, and texts that don't

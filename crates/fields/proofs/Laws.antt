@@ -16,7 +16,7 @@ use Rattle.hex_digits.specs.Numbers.{number_of, bytes_for}
 use Rattle.hex_digits.proofs.Lines.{take_bytes, drop_bytes, length_bytes, well_formed_bytes, well_formed_hex, bytes_hex, hex_bytes}
 use Rattle.hex_digits.proofs.Numbers.{length_bytes_for, bytes_for_bytes, number_bytes, bytes_number}
 use Rattle.fields.specs.declared.Layout.{Layout}
-use Rattle.fields.specs.declared.Reading.{Reading}
+use Rattle.fields.specs.Layouts.{Reading}
 use Rattle.fields.specs.Layouts.{head_size, field_bytes, name_bytes, line_of, FieldsFit, Fitting, tail_size, laid_out, is_frame, fields_of, fields_in, name_in, accepted_as, refused_with, read_of, buffer_of, longest_name}
 use Rattle.fields.proofs.Layouts.{length_field_bytes, fields_fit, size_named, frame_well_formed, frame_kind, frame_length, name_plain, name_named, length_name, read_zero, read_malformed, read_good, buffer_good}
 

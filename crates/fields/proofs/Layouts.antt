@@ -18,7 +18,7 @@ use Rattle.hex_digits.specs.Numbers.{number_of, bytes_for}
 use Rattle.hex_digits.proofs.Lines.{take_bytes, drop_bytes, length_bytes, well_formed_length, well_formed_bytes, length_hex, sets_append, sets_hex}
 use Rattle.hex_digits.proofs.Numbers.{number_below, length_bytes_for}
 use Rattle.fields.specs.declared.Layout.{Layout}
-use Rattle.fields.specs.declared.Reading.{Reading}
+use Rattle.fields.specs.Layouts.{Reading}
 use Rattle.fields.specs.Layouts.{head_size, narrow, field_bytes, FieldsFit, tail_size, laid_out, is_frame, fields_of, fields_in, name_in, accepted_as, refused_with, read_of, buffer_of, name_bytes, line_of, written_of, out_of, longest_name}
 
 -- how many widths a layout has in the code, `Layout::FIELDS`

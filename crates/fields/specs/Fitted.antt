@@ -2,7 +2,7 @@
 -- of its line. The laws are in proofs/Fitted.antt.
 -- Assumes nothing.
 use Rattle.std.specs.Prelude.{cond, List, ◌++◌, ℕ, length, drop, leb}
-use Rattle.fields.specs.declared.Written.{Written}
+use Rattle.fields.specs.Layouts.{Written}
 
 -- what is answered, of so much room
 unfoldable pub fitting_of : List ℕ → ℕ → Written

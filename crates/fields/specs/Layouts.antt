@@ -1,13 +1,14 @@
 -- What a frame is, once for every layout: its bytes, whether a line is a frame of it, the fields and the name in the line, and what
 -- reading and writing answer and leave. The five layouts are in `frames`; the laws are in proofs/Layouts.antt and proofs/Laws.antt.
 -- Assumes nothing.
-use Rattle.std.specs.Prelude.{◌≡◌, Bool, true, false, cond, ◌&&◌, List, [], ◌∷◌, ◌++◌, ℕ, ◌+◌, ◌^◌, ◌≤◌, ◌<◌, length, get_or, take, drop, replicate, leb, ltb, eqb}
+use Rattle.std.specs.Prelude.{◌≡◌, Result, Ok, Err, Bool, true, false, cond, ◌&&◌, List, [], ◌∷◌, ◌++◌, ℕ, ◌+◌, ◌^◌, ◌≤◌, ◌<◌, length, get_or, take, drop, replicate, leb, ltb, eqb}
 use Rattle.laws.specs.Lists.{sum_of}
 use Rattle.hex_digits.specs.Lines.{Bytes, hex_line, well_formed, bytes_of}
 use Rattle.hex_digits.specs.Numbers.{number_of, bytes_for}
 use Rattle.fields.specs.declared.Layout.{Layout}
-use Rattle.fields.specs.declared.Reading.{Reading}
-use Rattle.fields.specs.declared.Written.{Written}
+use Rattle.fields.specs.declared.Parts.{Parts}
+use Rattle.refusals.specs.declared.Refusal.{Refusal}
+use Rattle.refusals.specs.Refusals.{refusal_number}
 
 -- ---- the bytes of a frame
 
@@ -82,6 +83,12 @@ name_in y line = cond y.named (drop (head_size y + 1) (bytes_of line)) []
 
 -- ---- reading
 
+-- a reading of a frame: its number, its fields and the length of its name
+pub record Reading : Type 0 where
+  pub number : ℕ
+  pub fields : List ℕ
+  pub len : ℕ
+
 -- an accepted reading: number 0, the fields, and the length of the name
 abbrev pub accepted_as : Layout → List ℕ → Reading
 accepted_as y line = record { number = 0; fields = fields_in y line; len = length (name_in y line) }
@@ -95,6 +102,11 @@ unfoldable pub read_of : Layout → List ℕ → ℕ → Reading
 read_of y line room =
     cond (is_frame y line) (cond (leb (length (name_in y line)) room) (accepted_as y line) (refused_with y 8)) (refused_with y 11)
 
+-- what a reader answers, set out: 0 and what was read, or the number of the refusal and 0 in every field
+abbrev pub reading_in : Layout → Result Parts Refusal → Reading
+reading_in y (Ok p) = record { number = 0; fields = p.fields; len = p.len }
+reading_in y (Err r) = refused_with y (refusal_number r)
+
 -- what reading leaves in the buffer: the name and then what stood beyond it, or what stood there where the reading is refused
 unfoldable pub buffer_of : Layout → List ℕ → List ℕ → List ℕ
 buffer_of y line buffer =
@@ -103,6 +115,16 @@ buffer_of y line buffer =
     buffer
 
 -- ---- writing
+
+-- what writing answers: its number, and how many bytes were written
+pub record Written : Type 0 where
+  pub number : ℕ
+  pub len : ℕ
+
+-- what a writer answers, set out: 0 and how many bytes were written, or the number of the refusal and none
+abbrev pub written_in : Result ℕ Refusal → Written
+written_in (Ok n) = record { number = 0; len = n }
+written_in (Err r) = record { number = refusal_number r; len = 0 }
 
 -- what writing answers where the line has the room: 2 where the name is too long, then 8 where the line is too long
 unfoldable pub written_of : Layout → List ℕ → List ℕ → ℕ → Written

@@ -4,7 +4,9 @@
 ghost use Rattle.std.specs.Prelude.{◌≡◌, true, cond, ◌+◌, ◌*◌, ◌≤◌, ◌<◌, length};
 ghost use Rattle.std.proofs.lemmas.List.Edits.{sets};
 ghost use Rattle.hex_digits.specs.Lines.{hex_of};
-ghost use Rattle.fields.specs.Layouts.{head_size, narrow, field_bytes, name_bytes, line_of, is_frame, fields_in, name_in, read_of, refused_with, buffer_of, written_of, out_of, longest_name};
+ghost use Rattle.fields.specs.Layouts.{head_size, narrow, field_bytes, name_bytes, line_of, is_frame, fields_in, name_in, read_of, reading_in, buffer_of, written_in, written_of, out_of, longest_name};
+
+use refusals::Refusal;
 
 // The most bytes that a frame's name has: its length is one byte.
 pub const LONGEST_NAME: usize = 255;
@@ -22,18 +24,10 @@ impl Layout {
     pub const FIELDS: usize = 4;
 }
 
-// A reading of a frame: its number, its fields and the length of its name.
+// What is read of a frame: its fields and the length of its name.
 #[derive(Clone, Copy)]
-pub struct Reading {
-    pub number: u8,
+pub struct Parts {
     pub fields: [u32; Layout::FIELDS],
-    pub len: usize,
-}
-
-// What writing answers: its number, and how many bytes were written.
-#[derive(Clone, Copy)]
-pub struct Written {
-    pub number: u8,
     pub len: usize,
 }
 
@@ -41,11 +35,9 @@ pub struct Written {
 fn head_size(layout: Layout) -> usize
     ensures { (result ≡ head_size layout) × (result ≤ 4096) }
 {
-    let mut n: usize = 1;
-    let mut k = 0;
-    while k < Layout::FIELDS {
-        n += layout.widths[k] as usize;
-        k += 1;
+    let mut n = 1;
+    for width in layout.widths {
+        n += width as usize;
     }
     n
 }
@@ -80,26 +72,13 @@ fn fields(line: &[u8], layout: Layout) -> [u32; Layout::FIELDS]
     ensures { result ≡ fields_in layout line.now }
 {
     let mut read = [0u32; Layout::FIELDS];
-    let mut at: usize = 1;
-    let mut k = 0;
-    while k < Layout::FIELDS {
+    let mut at = 1;
+    for k in 0..Layout::FIELDS {
         let width = layout.widths[k] as usize;
         read[k] = hex_digits::number_at(line, at, width);
         at += width;
-        k += 1;
     }
     read
-}
-
-// A refused reading.
-fn refused(layout: Layout, number: u8) -> Reading
-    ensures { result ≡ refused_with layout number }
-{
-    Reading {
-        number,
-        fields: [0; Layout::FIELDS],
-        len: 0,
-    }
 }
 
 // The length of the name in a frame.
@@ -114,36 +93,30 @@ fn name_len(line: &[u8], layout: Layout) -> usize
 }
 
 // Reads a line, but for copying its name.
-pub fn read(line: &[u8], layout: Layout, room: usize) -> Reading
+pub fn read(line: &[u8], layout: Layout, room: usize) -> Result<Parts, Refusal>
     requires { narrow layout.widths ≡ true }
-    ensures { result ≡ read_of layout line.now room }
+    ensures { reading_in layout result ≡ read_of layout line.now room }
 {
     if !is_frame(line, layout) {
-        return refused(layout, 11);
+        return Err(Refusal::Malformed);
     }
     let len = name_len(line, layout);
     if room < len {
-        return refused(layout, 8);
+        return Err(Refusal::NoRoom);
     }
-    Reading {
-        number: 0,
-        fields: fields(line, layout),
-        len,
-    }
+    let fields = fields(line, layout);
+    Ok(Parts { fields, len })
 }
 
 // Reads a line of a layout with a name, and copies the name to the start of the buffer.
-pub fn read_named(line: &[u8], layout: Layout, name: &mut [u8]) -> Reading
+pub fn read_named(line: &[u8], layout: Layout, name: &mut [u8]) -> Result<Parts, Refusal>
     requires { (narrow layout.widths ≡ true) × (layout.named ≡ true) }
-    ensures value { result ≡ read_of layout line.now (length name.old) }
+    ensures value { reading_in layout result ≡ read_of layout line.now (length name.old) }
     ensures name_after { name.new ≡ buffer_of layout line.now name.old }
 {
-    let r = read(line, layout, name.len());
-    if r.number != 0 {
-        return r;
-    }
-    hex_digits::copy_bytes(line, head_size(layout) + 1, r.len, name);
-    r
+    let parts = read(line, layout, name.len())?;
+    hex_digits::copy_bytes(line, head_size(layout) + 1, parts.len, name);
+    Ok(parts)
 }
 
 // Writes the fields, each at its width, from index 2 on.
@@ -151,13 +124,11 @@ fn put_fields(out: &mut [u8], layout: Layout, fields: [u32; Layout::FIELDS])
     requires { (narrow layout.widths ≡ true) × (2 * head_size layout ≤ length out.old) }
     ensures { out.new ≡ sets out.old 2 (hex_of (field_bytes layout.widths fields)) }
 {
-    let mut at: usize = 2;
-    let mut k = 0;
-    while k < Layout::FIELDS {
+    let mut at = 2;
+    for k in 0..Layout::FIELDS {
         let width = layout.widths[k] as usize;
         hex_digits::put_number(out, at, fields[k], width);
         at += 2 * width;
-        k += 1;
     }
 }
 
@@ -199,18 +170,23 @@ fn put_line(out: &mut [u8], layout: Layout, fields: [u32; Layout::FIELDS], name:
 }
 
 // Writes a frame.
-pub fn write(out: &mut [u8], layout: Layout, fields: [u32; Layout::FIELDS], name: &[u8]) -> Written
+pub fn write(
+    out: &mut [u8],
+    layout: Layout,
+    fields: [u32; Layout::FIELDS],
+    name: &[u8],
+) -> Result<usize, Refusal>
     requires { narrow layout.widths ≡ true }
-    ensures value { result ≡ written_of layout fields name.now (length out.old) }
+    ensures value { written_in result ≡ written_of layout fields name.now (length out.old) }
     ensures out_after { out.new ≡ out_of layout fields name.now out.old }
 {
     if LONGEST_NAME < name.len() {
-        return Written { number: 2, len: 0 };
+        return Err(Refusal::TooLong);
     }
     let len = line_len(layout, name.len());
     if out.len() < len {
-        return Written { number: 8, len: 0 };
+        return Err(Refusal::NoRoom);
     }
     put_line(out, layout, fields, name);
-    Written { number: 0, len }
+    Ok(len)
 }

@@ -4,14 +4,14 @@ use mathlib.Core.Path.{◌≡◌, refl}
 use mathlib.Core.Bool.{false}
 use mathlib.Core.List.{List, [], ◌∷◌}
 use Prim.Native.Nat.{ℕ}
+use Rattle.std.proofs.Common.{Err}
+use Rattle.refusals.specs.declared.Refusal.TheVariants.{NoRoom}
+use Rattle.refusals.specs.Refusals.{refusal_number}
 use Rattle.laws.specs.Lists.{sum_of}
 use Rattle.hex_digits.specs.Lines.{digit_of, place_in, value_of, is_digit, hex_of, hex_line, well_formed, bytes_of}
 use Rattle.hex_digits.specs.Numbers.{number_of, bytes_for}
 use Rattle.fields.specs.Layouts.{head_size, field_bytes, name_bytes, line_of, tail_size, laid_out, is_frame, fields_of, fields_in, name_in, read_of}
-use Rattle.frames.specs.declared.RowRead.TheVariants.{Row}
-use Rattle.frames.specs.declared.EndRead.TheVariants.{End}
-use Rattle.frames.specs.declared.RefusalRead.TheVariants.{Refusal}
-use Rattle.frames.specs.Frames.{name_frame, query_frame, row_frame, end_frame, refusal_frame, name_out, query_out, row_out, end_out, refusal_out}
+use Rattle.frames.specs.Frames.{name_frame, query_frame, row_frame, end_frame, refusal_frame, name_out, query_out, row_out, end_out, refusal_out, a_name, a_query, a_row, an_end, a_refusal}
 
 -- LANE
 abbrev lane : List ℕ
@@ -50,13 +50,13 @@ unfolding line_of hex_line hex_of digit_of field_bytes bytes_for name_bytes
 listing_written = (refl, refl, refl, refl, refl)
 
 -- and read; three bytes are no room for LANE
-pub listing_read : (read_of name_frame name_line 4 ≡ name_out (record { number = 0; id = 10; len = 4 }))
+pub listing_read : (read_of name_frame name_line 4 ≡ name_out (a_name 10 4))
     × (name_in name_frame name_line ≡ lane)
-    × (read_of name_frame name_line 3 ≡ name_out (record { number = 8; id = 0; len = 0 }))
-    × (read_of query_frame query_line 64 ≡ query_out (record { number = 0; measure = 1; p = 8; q = 13; allowance = 15; len = 4 }))
-    × (read_of row_frame row_line 0 ≡ row_out (Row 11 4 7 4))
-    × (read_of end_frame end_line 0 ≡ end_out (End 3 15 8 13))
-    × (read_of refusal_frame refusal_line 0 ≡ refusal_out (Refusal 7 14))
+    × (read_of name_frame name_line 3 ≡ name_out (Err NoRoom))
+    × (read_of query_frame query_line 64 ≡ query_out (a_query 1 8 13 15 4))
+    × (read_of row_frame row_line 0 ≡ row_out (a_row 11 4 7 4))
+    × (read_of end_frame end_line 0 ≡ end_out (an_end 3 15 8 13))
+    × (read_of refusal_frame refusal_line 0 ≡ refusal_out (a_refusal 7 14))
 unfolding read_of is_frame well_formed is_digit value_of place_in laid_out bytes_of head_size sum_of tail_size name_in fields_in fields_of number_of
 listing_read = (refl, refl, refl, refl, refl, refl, refl)
 

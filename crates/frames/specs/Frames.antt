@@ -1,18 +1,16 @@
 -- The five frames as layouts, and the answers of their readers set out as a reading: number, fields and length of the name.
 -- What a frame of a layout is, and what reading and writing it answer, is in `fields`.
 -- Assumes nothing.
-use Rattle.std.specs.Prelude.{true, false, List, [], ◌∷◌, ℕ}
+use Rattle.std.specs.Prelude.{Result, Ok, Err, true, false, List, [], ◌∷◌, ℕ}
 use Rattle.fields.specs.declared.Layout.{Layout}
-use Rattle.fields.specs.declared.Reading.{Reading}
-use Rattle.fields.specs.Layouts.{refused_with}
-use Rattle.frames.specs.declared.NameRead.{NameRead}
-use Rattle.frames.specs.declared.QueryRead.{QueryRead}
-use Rattle.frames.specs.declared.RowRead.{RowRead}
-use Rattle.frames.specs.declared.RowRead.TheVariants.{Row, Malformed as NoRow}
-use Rattle.frames.specs.declared.EndRead.{EndRead}
-use Rattle.frames.specs.declared.EndRead.TheVariants.{End, Malformed as NoEnd}
-use Rattle.frames.specs.declared.RefusalRead.{RefusalRead}
-use Rattle.frames.specs.declared.RefusalRead.TheVariants.{Refusal, Malformed as NoRefusal}
+use Rattle.refusals.specs.declared.Refusal.{Refusal}
+use Rattle.refusals.specs.Refusals.{refusal_number}
+use Rattle.fields.specs.Layouts.{Reading, refused_with}
+use Rattle.frames.specs.declared.Name.{Name}
+use Rattle.frames.specs.declared.Query.{Query}
+use Rattle.frames.specs.declared.Row.{Row}
+use Rattle.frames.specs.declared.End.{End}
+use Rattle.frames.specs.declared.Refused.{Refused}
 
 -- ---- the layouts: a kind, the widths of the fields, and whether a name follows
 
@@ -50,27 +48,46 @@ end_line_length = 23
 abbrev pub refusal_line_length : ℕ
 refusal_line_length = 13
 
--- ---- the answers of the five readers, set out
+-- ---- the answers of the five readers, set out: 0 and what was read, or the number of the refusal and 0 in every field
 
--- a 4E answer: its number, its id, the length of its name
-abbrev pub name_out : NameRead → Reading
-name_out r = record { number = r.number; fields = r.id ∷ []; len = r.len }
+-- of a 4E line
+abbrev pub name_out : Result Name Refusal → Reading
+name_out (Ok x) = record { number = 0; fields = x.id ∷ []; len = x.len }
+name_out (Err r) = refused_with name_frame (refusal_number r)
 
--- a 51 answer: its number, its four fields, the length of its query
-abbrev pub query_out : QueryRead → Reading
-query_out r = record { number = r.number; fields = r.measure ∷ r.p ∷ r.q ∷ r.allowance ∷ []; len = r.len }
+-- of a 51 line
+abbrev pub query_out : Result Query Refusal → Reading
+query_out (Ok x) = record { number = 0; fields = x.measure ∷ x.p ∷ x.q ∷ x.allowance ∷ []; len = x.len }
+query_out (Err r) = refused_with query_frame (refusal_number r)
 
--- a 52 answer: 0 and the fields of a row, or 11 and 0 in every field
-abbrev pub row_out : RowRead → Reading
-row_out (Row id shared size least) = record { number = 0; fields = id ∷ shared ∷ size ∷ least ∷ []; len = 0 }
-row_out NoRow = refused_with row_frame 11
+-- of a 52 line
+abbrev pub row_out : Result Row Refusal → Reading
+row_out (Ok x) = record { number = 0; fields = x.id ∷ x.shared ∷ x.size ∷ x.least ∷ []; len = 0 }
+row_out (Err r) = refused_with row_frame (refusal_number r)
 
--- a 45 answer: 0 and the fields of an end, or 11 and 0 in every field
-abbrev pub end_out : EndRead → Reading
-end_out (End rows touches p q) = record { number = 0; fields = rows ∷ touches ∷ p ∷ q ∷ []; len = 0 }
-end_out NoEnd = refused_with end_frame 11
+-- of a 45 line
+abbrev pub end_out : Result End Refusal → Reading
+end_out (Ok x) = record { number = 0; fields = x.rows ∷ x.touches ∷ x.p ∷ x.q ∷ []; len = 0 }
+end_out (Err r) = refused_with end_frame (refusal_number r)
 
--- a 58 answer: 0 and the fields of a refusal, or 11 and 0 in every field
-abbrev pub refusal_out : RefusalRead → Reading
-refusal_out (Refusal number touches) = record { number = 0; fields = number ∷ touches ∷ []; len = 0 }
-refusal_out NoRefusal = refused_with refusal_frame 11
+-- of a 58 line
+abbrev pub refusal_out : Result Refused Refusal → Reading
+refusal_out (Ok x) = record { number = 0; fields = x.number ∷ x.touches ∷ []; len = 0 }
+refusal_out (Err r) = refused_with refusal_frame (refusal_number r)
+
+-- ---- what is read of a line, of its fields one by one
+
+abbrev pub a_name : ℕ → ℕ → Result Name Refusal
+a_name id len = Ok (record { id = id; len = len })
+
+abbrev pub a_query : ℕ → ℕ → ℕ → ℕ → ℕ → Result Query Refusal
+a_query measure p q allowance len = Ok (record { measure = measure; p = p; q = q; allowance = allowance; len = len })
+
+abbrev pub a_row : ℕ → ℕ → ℕ → ℕ → Result Row Refusal
+a_row id shared size least = Ok (record { id = id; shared = shared; size = size; least = least })
+
+abbrev pub an_end : ℕ → ℕ → ℕ → ℕ → Result End Refusal
+an_end rows touches p q = Ok (record { rows = rows; touches = touches; p = p; q = q })
+
+abbrev pub a_refusal : ℕ → ℕ → Result Refused Refusal
+a_refusal number touches = Ok (record { number = number; touches = touches })

@@ -2,10 +2,11 @@
 #![tactic(auto)]
 
 ghost use Rattle.std.specs.Prelude.{◌≡◌, [], ◌∷◌, length};
-ghost use Rattle.fields.specs.Layouts.{read_of, buffer_of, written_of, out_of};
+ghost use Rattle.fields.specs.Layouts.{read_of, buffer_of, written_in, written_of, out_of};
 ghost use Rattle.frames.specs.Frames.{name_frame, query_frame, row_frame, end_frame, refusal_frame, name_out, query_out, row_out, end_out, refusal_out};
 
-use fields::{Layout, Written};
+use fields::Layout;
+use refusals::Refusal;
 
 // The layouts of the five frames.
 const NAME: Layout = Layout {
@@ -45,18 +46,16 @@ pub const END_LENGTH: usize = 23;
 
 pub const REFUSAL_LENGTH: usize = 13;
 
-// What reading a 4E line answers.
+// A 4E line: a registered name, which has so many bytes.
 #[derive(Clone, Copy)]
-pub struct NameRead {
-    pub number: u8,
+pub struct Name {
     pub id: u16,
     pub len: usize,
 }
 
-// What reading a 51 line answers.
+// A 51 line: a query, whose name has so many bytes.
 #[derive(Clone, Copy)]
-pub struct QueryRead {
-    pub number: u8,
+pub struct Query {
     pub measure: u8,
     pub p: u16,
     pub q: u16,
@@ -64,77 +63,66 @@ pub struct QueryRead {
     pub len: usize,
 }
 
-// What reading a 52 line answers.
+// A 52 line: a row of an answer.
 #[derive(Clone, Copy)]
-pub enum RowRead {
-    Row {
-        id: u16,
-        shared: u8,
-        size: u8,
-        least: u8,
-    },
-    Malformed,
+pub struct Row {
+    pub id: u16,
+    pub shared: u8,
+    pub size: u8,
+    pub least: u8,
 }
 
-// What reading a 45 line answers.
+// A 45 line: the end of an answer.
 #[derive(Clone, Copy)]
-pub enum EndRead {
-    End {
-        rows: u16,
-        touches: u32,
-        p: u16,
-        q: u16,
-    },
-    Malformed,
+pub struct End {
+    pub rows: u16,
+    pub touches: u32,
+    pub p: u16,
+    pub q: u16,
 }
 
-// What reading a 58 line answers.
+// A 58 line: a refusal, by its number.
 #[derive(Clone, Copy)]
-pub enum RefusalRead {
-    Refusal { number: u8, touches: u32 },
-    Malformed,
+pub struct Refused {
+    pub number: u8,
+    pub touches: u32,
 }
 
 // Reads a 4E line, and puts the name at the start of the buffer.
-pub fn read_name(line: &[u8], name: &mut [u8]) -> NameRead
+pub fn read_name(line: &[u8], name: &mut [u8]) -> Result<Name, Refusal>
     ensures result_value { name_out result ≡ read_of name_frame line.now (length name.old) }
     ensures name_after { name.new ≡ buffer_of name_frame line.now name.old }
 {
-    let r = fields::read_named(line, NAME, name);
-    let id = r.fields[0] as u16;
-    NameRead {
-        number: r.number,
-        id,
-        len: r.len,
-    }
+    let parts = fields::read_named(line, NAME, name)?;
+    let id = parts.fields[0] as u16;
+    Ok(Name { id, len: parts.len })
 }
 
 // Writes a 4E line.
-pub fn write_name(out: &mut [u8], id: u16, name: &[u8]) -> Written
-    ensures value { result ≡ written_of name_frame (id ∷ []) name.now (length out.old) }
+pub fn write_name(out: &mut [u8], id: u16, name: &[u8]) -> Result<usize, Refusal>
+    ensures value { written_in result ≡ written_of name_frame (id ∷ []) name.now (length out.old) }
     ensures out_after { out.new ≡ out_of name_frame (id ∷ []) name.now out.old }
 {
-    fields::write(out, NAME, [id as u32, 0, 0, 0], name)
+    fields::write(out, NAME, [u32::from(id), 0, 0, 0], name)
 }
 
 // Reads a 51 line, and puts the query at the start of the buffer.
-pub fn read_query(line: &[u8], query: &mut [u8]) -> QueryRead
+pub fn read_query(line: &[u8], query: &mut [u8]) -> Result<Query, Refusal>
     ensures result_value { query_out result ≡ read_of query_frame line.now (length query.old) }
     ensures query_after { query.new ≡ buffer_of query_frame line.now query.old }
 {
-    let r = fields::read_named(line, QUERY, query);
-    let measure = r.fields[0] as u8;
-    let p = r.fields[1] as u16;
-    let q = r.fields[2] as u16;
-    let allowance = r.fields[3];
-    QueryRead {
-        number: r.number,
+    let parts = fields::read_named(line, QUERY, query)?;
+    let measure = parts.fields[0] as u8;
+    let p = parts.fields[1] as u16;
+    let q = parts.fields[2] as u16;
+    let allowance = parts.fields[3];
+    Ok(Query {
         measure,
         p,
         q,
         allowance,
-        len: r.len,
-    }
+        len: parts.len,
+    })
 }
 
 // Writes a 51 line.
@@ -145,96 +133,97 @@ pub fn write_query(
     q: u16,
     allowance: u32,
     query: &[u8],
-) -> Written
-    ensures value { result ≡ written_of query_frame (measure ∷ p ∷ q ∷ allowance ∷ []) query.now (length out.old) }
+) -> Result<usize, Refusal>
+    ensures value { written_in result ≡ written_of query_frame (measure ∷ p ∷ q ∷ allowance ∷ []) query.now (length out.old) }
     ensures out_after { out.new ≡ out_of query_frame (measure ∷ p ∷ q ∷ allowance ∷ []) query.now out.old }
 {
     fields::write(
         out,
         QUERY,
-        [measure as u32, p as u32, q as u32, allowance],
+        [u32::from(measure), u32::from(p), u32::from(q), allowance],
         query,
     )
 }
 
 // Reads a 52 line.
-pub fn read_row(line: &[u8]) -> RowRead
+pub fn read_row(line: &[u8]) -> Result<Row, Refusal>
     ensures { row_out result ≡ read_of row_frame line.now 0 }
 {
-    let r = fields::read(line, ROW, 0);
-    if r.number != 0 {
-        return RowRead::Malformed;
-    }
-    let id = r.fields[0] as u16;
-    let shared = r.fields[1] as u8;
-    let size = r.fields[2] as u8;
-    let least = r.fields[3] as u8;
-    RowRead::Row {
+    let fields = fields::read(line, ROW, 0)?.fields;
+    let id = fields[0] as u16;
+    let shared = fields[1] as u8;
+    let size = fields[2] as u8;
+    let least = fields[3] as u8;
+    Ok(Row {
         id,
         shared,
         size,
         least,
-    }
+    })
 }
 
 // Writes a 52 line.
-pub fn write_row(out: &mut [u8], id: u16, shared: u8, size: u8, least: u8) -> Written
-    ensures value { result ≡ written_of row_frame (id ∷ shared ∷ size ∷ least ∷ []) [] (length out.old) }
+pub fn write_row(out: &mut [u8], id: u16, shared: u8, size: u8, least: u8) -> Result<usize, Refusal>
+    ensures value { written_in result ≡ written_of row_frame (id ∷ shared ∷ size ∷ least ∷ []) [] (length out.old) }
     ensures out_after { out.new ≡ out_of row_frame (id ∷ shared ∷ size ∷ least ∷ []) [] out.old }
 {
     fields::write(
         out,
         ROW,
-        [id as u32, shared as u32, size as u32, least as u32],
+        [
+            u32::from(id),
+            u32::from(shared),
+            u32::from(size),
+            u32::from(least),
+        ],
         &[],
     )
 }
 
 // Reads a 45 line.
-pub fn read_end(line: &[u8]) -> EndRead
+pub fn read_end(line: &[u8]) -> Result<End, Refusal>
     ensures { end_out result ≡ read_of end_frame line.now 0 }
 {
-    let r = fields::read(line, END, 0);
-    if r.number != 0 {
-        return EndRead::Malformed;
-    }
-    let rows = r.fields[0] as u16;
-    let touches = r.fields[1];
-    let p = r.fields[2] as u16;
-    let q = r.fields[3] as u16;
-    EndRead::End {
+    let fields = fields::read(line, END, 0)?.fields;
+    let rows = fields[0] as u16;
+    let touches = fields[1];
+    let p = fields[2] as u16;
+    let q = fields[3] as u16;
+    Ok(End {
         rows,
         touches,
         p,
         q,
-    }
+    })
 }
 
 // Writes a 45 line.
-pub fn write_end(out: &mut [u8], rows: u16, touches: u32, p: u16, q: u16) -> Written
-    ensures value { result ≡ written_of end_frame (rows ∷ touches ∷ p ∷ q ∷ []) [] (length out.old) }
+pub fn write_end(out: &mut [u8], rows: u16, touches: u32, p: u16, q: u16) -> Result<usize, Refusal>
+    ensures value { written_in result ≡ written_of end_frame (rows ∷ touches ∷ p ∷ q ∷ []) [] (length out.old) }
     ensures out_after { out.new ≡ out_of end_frame (rows ∷ touches ∷ p ∷ q ∷ []) [] out.old }
 {
-    fields::write(out, END, [rows as u32, touches, p as u32, q as u32], &[])
+    fields::write(
+        out,
+        END,
+        [u32::from(rows), touches, u32::from(p), u32::from(q)],
+        &[],
+    )
 }
 
 // Reads a 58 line.
-pub fn read_refusal(line: &[u8]) -> RefusalRead
+pub fn read_refusal(line: &[u8]) -> Result<Refused, Refusal>
     ensures { refusal_out result ≡ read_of refusal_frame line.now 0 }
 {
-    let r = fields::read(line, REFUSAL, 0);
-    if r.number != 0 {
-        return RefusalRead::Malformed;
-    }
-    let number = r.fields[0] as u8;
-    let touches = r.fields[1];
-    RefusalRead::Refusal { number, touches }
+    let fields = fields::read(line, REFUSAL, 0)?.fields;
+    let number = fields[0] as u8;
+    let touches = fields[1];
+    Ok(Refused { number, touches })
 }
 
 // Writes a 58 line.
-pub fn write_refusal(out: &mut [u8], number: u8, touches: u32) -> Written
-    ensures value { result ≡ written_of refusal_frame (number ∷ touches ∷ []) [] (length out.old) }
+pub fn write_refusal(out: &mut [u8], number: u8, touches: u32) -> Result<usize, Refusal>
+    ensures value { written_in result ≡ written_of refusal_frame (number ∷ touches ∷ []) [] (length out.old) }
     ensures out_after { out.new ≡ out_of refusal_frame (number ∷ touches ∷ []) [] out.old }
 {
-    fields::write(out, REFUSAL, [number as u32, touches, 0, 0], &[])
+    fields::write(out, REFUSAL, [u32::from(number), touches, 0, 0], &[])
 }

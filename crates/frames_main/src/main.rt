@@ -3,44 +3,38 @@
 // vectors.py, beside src/, made the files stdin and stdout from the rule of the frames alone; it shares nothing with the crates.
 #![tactic(auto)]
 
-use fields::Written;
-use frames::{EndRead, NameRead, QueryRead, RefusalRead, RowRead};
+use frames::{End, Name, Query, Refused, Row};
+use refusals::Refusal;
 use std::io;
 
-fn text<P: Print>(rt: &P, s: &[u8]) -> io::Result<()> {
-    rt.write_all(s)
-}
-
-// A number, with a space before it.
-fn number<P: Print>(rt: &P, n: u64) -> io::Result<()> {
-    print!(rt; " {n}")
-}
-
 // What a writer answered, and what it left: the room that it was lent, and one byte beyond.
-fn written<P: Print>(rt: &P, w: Written, out: [u8; 640], room: usize) -> io::Result<()> {
-    text(rt, b" wrote")?;
-    number(rt, w.number as u64)?;
-    number(rt, w.len as u64)?;
-    text(rt, b" ")?;
-    if room < 640 {
-        text(rt, &out[0..room + 1])?;
+fn written<P: Print>(
+    rt: &P,
+    w: Result<usize, Refusal>,
+    out: [u8; 640],
+    room: usize,
+) -> io::Result<()> {
+    match w {
+        Ok(len) => print!(rt; " wrote 0 {len} ")?,
+        Err(refusal) => print!(rt; " wrote {} 0 ", refusal.number())?,
     }
-    text(rt, b"\n")
+    if room < 640 {
+        rt.write_all(&out[..room + 1])?;
+    }
+    println!(rt)
 }
 
 fn put_name<P: Print>(
     rt: &P,
     room: usize,
-    r: NameRead,
+    r: Name,
     name: [u8; fields::LONGEST_NAME],
 ) -> io::Result<()> {
     let mut out = [46u8; 640];
     let len = r.len;
-    if room <= 640 {
-        if len <= fields::LONGEST_NAME {
-            let w = frames::write_name(&mut out[0..room], r.id, &name[0..len]);
-            written(rt, w, out, room)?;
-        }
+    if room <= 640 && len <= fields::LONGEST_NAME {
+        let w = frames::write_name(&mut out[..room], r.id, &name[..len]);
+        written(rt, w, out, room)?;
     }
     Ok(())
 }
@@ -48,101 +42,83 @@ fn put_name<P: Print>(
 fn put_query<P: Print>(
     rt: &P,
     room: usize,
-    r: QueryRead,
+    r: Query,
     query: [u8; fields::LONGEST_NAME],
 ) -> io::Result<()> {
     let mut out = [46u8; 640];
     let len = r.len;
-    if room <= 640 {
-        if len <= fields::LONGEST_NAME {
-            let w = frames::write_query(
-                &mut out[0..room],
-                r.measure,
-                r.p,
-                r.q,
-                r.allowance,
-                &query[0..len],
-            );
-            written(rt, w, out, room)?;
-        }
-    }
-    Ok(())
-}
-
-fn put_row<P: Print>(
-    rt: &P,
-    room: usize,
-    id: u16,
-    shared: u8,
-    size: u8,
-    least: u8,
-) -> io::Result<()> {
-    let mut out = [46u8; 640];
-    if room <= 640 {
-        let w = frames::write_row(&mut out[0..room], id, shared, size, least);
+    if room <= 640 && len <= fields::LONGEST_NAME {
+        let w = frames::write_query(
+            &mut out[..room],
+            r.measure,
+            r.p,
+            r.q,
+            r.allowance,
+            &query[..len],
+        );
         written(rt, w, out, room)?;
     }
     Ok(())
 }
 
-fn put_end<P: Print>(
-    rt: &P,
-    room: usize,
-    rows: u16,
-    touches: u32,
-    p: u16,
-    q: u16,
-) -> io::Result<()> {
+fn put_row<P: Print>(rt: &P, room: usize, r: Row) -> io::Result<()> {
     let mut out = [46u8; 640];
     if room <= 640 {
-        let w = frames::write_end(&mut out[0..room], rows, touches, p, q);
+        let w = frames::write_row(&mut out[..room], r.id, r.shared, r.size, r.least);
         written(rt, w, out, room)?;
     }
     Ok(())
 }
 
-fn put_refusal<P: Print>(rt: &P, room: usize, no: u8, touches: u32) -> io::Result<()> {
+fn put_end<P: Print>(rt: &P, room: usize, r: End) -> io::Result<()> {
     let mut out = [46u8; 640];
     if room <= 640 {
-        let w = frames::write_refusal(&mut out[0..room], no, touches);
+        let w = frames::write_end(&mut out[..room], r.rows, r.touches, r.p, r.q);
         written(rt, w, out, room)?;
     }
     Ok(())
 }
 
-fn four<P: Print>(rt: &P, a: u64, b: u64, c: u64, d: u64) -> io::Result<()> {
-    number(rt, a)?;
-    number(rt, b)?;
-    number(rt, c)?;
-    number(rt, d)
+fn put_refusal<P: Print>(rt: &P, room: usize, r: Refused) -> io::Result<()> {
+    let mut out = [46u8; 640];
+    if room <= 640 {
+        let w = frames::write_refusal(&mut out[..room], r.number, r.touches);
+        written(rt, w, out, room)?;
+    }
+    Ok(())
 }
 
 // The buffer that a reader was lent, as it left it.
 fn buffer<P: Print>(rt: &P, len: usize, small: [u8; 8]) -> io::Result<()> {
-    number(rt, len as u64)?;
-    text(rt, b" ")?;
-    text(rt, &small)?;
-    text(rt, b"\n")
+    print!(rt; " {len} ")?;
+    rt.write_all(&small)?;
+    println!(rt)
 }
 
-fn show_name<P: Print>(rt: &P, r: NameRead, small: [u8; 8]) -> io::Result<()> {
-    text(rt, b"4E")?;
-    number(rt, r.number as u64)?;
-    number(rt, r.id as u64)?;
-    buffer(rt, r.len, small)
+fn show_name<P: Print>(rt: &P, r: Result<Name, Refusal>, small: [u8; 8]) -> io::Result<()> {
+    match r {
+        Ok(r) => {
+            print!(rt; "4E 0 {}", r.id)?;
+            buffer(rt, r.len, small)
+        }
+        Err(refusal) => {
+            print!(rt; "4E {} 0", refusal.number())?;
+            buffer(rt, 0, small)
+        }
+    }
 }
 
-fn show_query<P: Print>(rt: &P, r: QueryRead, small: [u8; 8]) -> io::Result<()> {
-    text(rt, b"51")?;
-    number(rt, r.number as u64)?;
-    four(
-        rt,
-        r.measure as u64,
-        r.p as u64,
-        r.q as u64,
-        r.allowance as u64,
-    )?;
-    buffer(rt, r.len, small)
+fn show_query<P: Print>(rt: &P, r: Result<Query, Refusal>, small: [u8; 8]) -> io::Result<()> {
+    match r {
+        Ok(r) => {
+            print!(rt; "51 0 {} {} {} {}", r.measure, r.p, r.q, r.allowance)?;
+            buffer(rt, r.len, small)
+        }
+        Err(refusal) => {
+            print!(rt; "51 {} 0 0 0 0", refusal.number())?;
+            buffer(rt, 0, small)
+        }
+    }
 }
 
 // A name is read into 8 bytes, and again into a buffer of the longest name for the writer, which is lent the line's length and then one byte less.
@@ -151,9 +127,10 @@ fn name<P: Print>(rt: &P, line: &[u8]) -> io::Result<()> {
     let r = frames::read_name(line, &mut small);
     show_name(rt, r, small)?;
     let mut large = [46u8; fields::LONGEST_NAME];
-    let s = frames::read_name(line, &mut large);
     let n = line.len();
-    if s.number == 0 && 0 < n {
+    if let Ok(s) = frames::read_name(line, &mut large)
+        && 0 < n
+    {
         put_name(rt, n, s, large)?;
         put_name(rt, n - 1, s, large)?;
     }
@@ -165,77 +142,47 @@ fn query<P: Print>(rt: &P, line: &[u8]) -> io::Result<()> {
     let r = frames::read_query(line, &mut small);
     show_query(rt, r, small)?;
     let mut large = [46u8; fields::LONGEST_NAME];
-    let s = frames::read_query(line, &mut large);
     let n = line.len();
-    if s.number == 0 && 0 < n {
+    if let Ok(s) = frames::read_query(line, &mut large)
+        && 0 < n
+    {
         put_query(rt, n, s, large)?;
         put_query(rt, n - 1, s, large)?;
     }
     Ok(())
 }
 
-fn malformed<P: Print>(rt: &P) -> io::Result<()> {
-    number(rt, 11)?;
-    text(rt, b"\n")
-}
-
 fn row<P: Print>(rt: &P, line: &[u8]) -> io::Result<()> {
-    text(rt, b"52")?;
     match frames::read_row(line) {
-        RowRead::Row {
-            id,
-            shared,
-            size,
-            least,
-        } => {
-            number(rt, 0)?;
-            four(rt, id as u64, shared as u64, size as u64, least as u64)?;
-            text(rt, b"\n")?;
-            put_row(rt, frames::ROW_LENGTH, id, shared, size, least)?;
-            put_row(rt, frames::ROW_LENGTH - 1, id, shared, size, least)?;
+        Ok(r) => {
+            println!(rt; "52 0 {} {} {} {}", r.id, r.shared, r.size, r.least)?;
+            put_row(rt, frames::ROW_LENGTH, r)?;
+            put_row(rt, frames::ROW_LENGTH - 1, r)
         }
-        RowRead::Malformed => malformed(rt)?,
+        Err(refusal) => println!(rt; "52 {}", refusal.number()),
     }
-    Ok(())
 }
 
 fn end<P: Print>(rt: &P, line: &[u8]) -> io::Result<()> {
-    text(rt, b"45")?;
     match frames::read_end(line) {
-        EndRead::End {
-            rows,
-            touches,
-            p,
-            q,
-        } => {
-            number(rt, 0)?;
-            four(rt, rows as u64, touches as u64, p as u64, q as u64)?;
-            text(rt, b"\n")?;
-            put_end(rt, frames::END_LENGTH, rows, touches, p, q)?;
-            put_end(rt, frames::END_LENGTH - 1, rows, touches, p, q)?;
+        Ok(r) => {
+            println!(rt; "45 0 {} {} {} {}", r.rows, r.touches, r.p, r.q)?;
+            put_end(rt, frames::END_LENGTH, r)?;
+            put_end(rt, frames::END_LENGTH - 1, r)
         }
-        EndRead::Malformed => malformed(rt)?,
+        Err(refusal) => println!(rt; "45 {}", refusal.number()),
     }
-    Ok(())
 }
 
 fn refusal<P: Print>(rt: &P, line: &[u8]) -> io::Result<()> {
-    text(rt, b"58")?;
     match frames::read_refusal(line) {
-        RefusalRead::Refusal {
-            number: no,
-            touches,
-        } => {
-            number(rt, 0)?;
-            number(rt, no as u64)?;
-            number(rt, touches as u64)?;
-            text(rt, b"\n")?;
-            put_refusal(rt, frames::REFUSAL_LENGTH, no, touches)?;
-            put_refusal(rt, frames::REFUSAL_LENGTH - 1, no, touches)?;
+        Ok(r) => {
+            println!(rt; "58 0 {} {}", r.number, r.touches)?;
+            put_refusal(rt, frames::REFUSAL_LENGTH, r)?;
+            put_refusal(rt, frames::REFUSAL_LENGTH - 1, r)
         }
-        RefusalRead::Malformed => malformed(rt)?,
+        Err(refusal) => println!(rt; "58 {}", refusal.number()),
     }
-    Ok(())
 }
 
 fn all<P: Print>(rt: &P, line: &[u8]) -> io::Result<()> {
@@ -248,14 +195,10 @@ fn all<P: Print>(rt: &P, line: &[u8]) -> io::Result<()> {
 
 // Each line of the input, up to its bar.
 fn lines<P: Print>(rt: &P, input: &[u8]) -> io::Result<()> {
-    let mut from = 0;
-    let mut i = 0;
-    while i < input.len() {
-        if input[i] == b'|' {
-            all(rt, &input[from..i])?;
-            from = i + 1;
+    for part in input.split_inclusive(|b| *b == b'|') {
+        if let Some(line) = part.strip_suffix(b"|") {
+            all(rt, line)?;
         }
-        i += 1;
     }
     Ok(())
 }
@@ -265,7 +208,7 @@ fn long_name<P: Print>(rt: &P, room: usize) -> io::Result<()> {
     let long = [65u8; fields::LONGEST_NAME + 1];
     let mut out = [46u8; 640];
     if room <= 640 {
-        let w = frames::write_name(&mut out[0..room], 1, &long);
+        let w = frames::write_name(&mut out[..room], 1, &long);
         written(rt, w, out, room)?;
     }
     Ok(())
@@ -275,7 +218,7 @@ fn long_query<P: Print>(rt: &P, room: usize) -> io::Result<()> {
     let long = [65u8; fields::LONGEST_NAME + 1];
     let mut out = [46u8; 640];
     if room <= 640 {
-        let w = frames::write_query(&mut out[0..room], 1, 2, 3, 4, &long);
+        let w = frames::write_query(&mut out[..room], 1, 2, 3, 4, &long);
         written(rt, w, out, room)?;
     }
     Ok(())
@@ -283,11 +226,8 @@ fn long_query<P: Print>(rt: &P, room: usize) -> io::Result<()> {
 
 fn main(rt: HostRuntime) -> io::Result<()> {
     let mut space = [0u8; 65536];
-    let input = streams::read_input(&mut rt.stdin(), &mut space);
-    if let Some(error) = input.failure {
-        return Err(error);
-    }
-    lines(&rt, &space[..input.len])?;
+    let len = streams::read_input(&mut rt.stdin(), &mut space)?;
+    lines(&rt, &space[..len])?;
     long_name(&rt, 600)?;
     long_name(&rt, 3)?;
     long_query(&rt, 600)?;

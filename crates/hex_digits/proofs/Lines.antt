@@ -2,16 +2,19 @@
 -- Cited by the proofs of the crate and by `fields` and `answers`.
 -- Assumes nothing.
 use mathlib.Core.Path.{◌≡◌, refl, sym, ap, ◌∙◌}
-use mathlib.Core.Bool.{true, false, ◌&&◌, false≢true, and-false}
+use mathlib.Core.Bool.{Bool, true, false, ◌&&◌, false≢true, and-false, and-true}
 use mathlib.Core.List.{List, [], ◌∷◌, ◌++◌}
 use Prim.Native.Nat.{ℕ, zero, suc, ◌+◌, ◌-◌, ◌*◌, ◌/◌, ◌%◌, ◌≤◌, ◌<◌}
 use native.Mathlib.Nat.{zero-add, div-add-mod'}
-use native.Mathlib.Numerals.{add-one, add-two}
+use native.Mathlib.Numerals.{add-one}
 use native.Mathlib.Omega.{arith}
 use lib.Arith.{digits_div, digits_mod}
 use lib.ListN.{length, get_or, take, drop, set, drop_of_length-le}
-use lib.Seq.{drop-cons, take-suc, length-take-le, get_or-drop, sets}
+use lib.Seq.{take-suc, length-take-le, get_or-drop, sets}
 use lib.Dec.{eqb}
+use Rattle.std.specs.List.{list_all}
+use Rattle.std.proofs.lemmas.List.{append-nil}
+use Rattle.std.proofs.lemmas.List.Edits.{sets-eq}
 use borrow.Author.Tests.{lt-ltb, ltb-true, eqb-true}
 use Rattle.laws.proofs.Below.{and_left, and_right}
 use Rattle.hex_digits.specs.Lines.{digit_of, place_in, value_of, is_digit, hex_of, hex_line, well_formed, bytes_of, Bytes}
@@ -33,10 +36,6 @@ drop_bytes n s h k = rw get_or-drop (h (n + k))
 pub digit_is : (b : ℕ) → value_of b < 16 → is_digit b ≡ true
 unfolding is_digit
 digit_is b h = lt-ltb _ _ h
-
-pub digit_not : (b : ℕ) → value_of b ≡ 16 → is_digit b ≡ false
-unfolding is_digit
-digit_not b e = rw e
 
 pub digit_below : (b : ℕ) → is_digit b ≡ true → value_of b < 16
 unfolding is_digit
@@ -61,43 +60,31 @@ length_bytes [] = refl
 length_bytes (a ∷ []) = refl
 length_bytes (a ∷ b ∷ l) = let h = length_bytes l in omega arith
 
--- ---- the scan of a line, two bytes a turn
+-- ---- the whole line
 
-module _ (l : List ℕ) (i : ℕ) where
-  pub scan_step : i + 1 < length l → value_of (get_or l i 0) < 16 → value_of (get_or l (i + 1) 0) < 16
-      → well_formed (drop (i + 2) l) ≡ well_formed (drop i l)
-  unfolding well_formed
-  scan_step h p q =
-      let s : i < length l = omega arith in
-      let t : suc i < length l = omega arith in
-      let u : value_of (get_or l (suc i) 0) < 16 = rw add-one at q in
-      rw (drop-cons l i 0, drop-cons l (suc i) 0, digit_is _ p, digit_is _ u, add-two)
+pub well_formed_none : (l : List ℕ) → length l ≡ 0 → well_formed l ≡ false
+unfolding well_formed
+well_formed_none [] e = refl
+well_formed_none (a ∷ l) e = absurd (omega arith)
 
-  pub scan_high : i + 1 < length l → value_of (get_or l i 0) ≡ 16 → well_formed (drop i l) ≡ false
-  unfolding well_formed
-  scan_high h p =
-      let s : i < length l = omega arith in
-      let t : suc i < length l = omega arith in
-      rw (drop-cons l i 0, drop-cons l (suc i) 0, digit_not _ p)
+-- a line of at least one byte is well formed exactly if its last byte is a line feed, and what stands before it are pairs of digits
+pub well_formed_last : (p : List ℕ) (b : ℕ) → well_formed (p ++ (b ∷ [])) ≡ (eqb b 10 && eqb (length p % 2) 0) && list_all is_digit p
+unfolding well_formed
+well_formed_last [] b = sym (and-true _ ∙ and-true _)
+well_formed_last (a ∷ []) b = rw (and-false (is_digit b), and-false (is_digit a), and-false (eqb b 10))
+well_formed_last (a ∷ d ∷ p) b =
+    let e : length (a ∷ d ∷ p) % 2 ≡ length p % 2 = omega arith in
+    rw (e, well_formed_last p b) (by_test (is_digit a) (is_digit d) (eqb b 10 && eqb (length p % 2) 0))
+  where
+    by_test : (s t u : Bool) → s && (t && (u && list_all is_digit p)) ≡ u && (s && (t && list_all is_digit p))
+    by_test true true u = refl
+    by_test true false u = sym (and-false u)
+    by_test false t u = sym (and-false u)
 
-  pub scan_low : i + 1 < length l → value_of (get_or l (i + 1) 0) ≡ 16 → well_formed (drop i l) ≡ false
-  unfolding well_formed
-  scan_low h p =
-      let s : i < length l = omega arith in
-      let t : suc i < length l = omega arith in
-      let u : value_of (get_or l (suc i) 0) ≡ 16 = rw add-one at p in
-      rw (drop-cons l i 0, drop-cons l (suc i) 0, digit_not _ u) (and-false (is_digit (get_or l i 0)))
-
-  pub scan_none : length l ≤ i → well_formed (drop i l) ≡ false
-  unfolding well_formed
-  scan_none h = rw (drop_of_length-le l h)
-
-  pub scan_last : i + 1 ≡ length l → well_formed (drop i l) ≡ eqb (get_or l i 0) 10
-  unfolding well_formed
-  scan_last e =
-      let s : i < length l = omega arith in
-      let t : length l ≤ suc i = omega arith in
-      rw (drop-cons l i 0, drop_of_length-le l t)
+-- t is whether the last byte is a line feed and an even number of bytes stand before it
+pub well_formed_by : (l p : List ℕ) (b : ℕ) (t : Bool) → l ≡ p ++ (b ∷ []) → t ≡ (eqb b 10 && eqb (length p % 2) 0)
+    → well_formed l ≡ t && list_all is_digit p
+well_formed_by l p b t e f = rw (e, f) (well_formed_last p b)
 
 -- ---- what a well-formed line holds
 
@@ -222,3 +209,10 @@ pub copy_more : (l s : List ℕ) (k : ℕ) → k < length s → set (sets l 0 (t
 copy_more l s k h =
     let e : 0 + length (take k s) ≡ k = ap (λ (x : ℕ). 0 + x) (length-take-le k s (omega arith)) ∙ zero-add k in
     rw (add-one, take-suc s k 0, sets_append, e)
+
+-- what is put at the start of the first n elements, and what comes after these
+pub sets_front : (l s : List ℕ) (n : ℕ) → length s ≡ n → n ≤ length l → sets (take n l) 0 s ++ drop n l ≡ sets l 0 s
+sets_front l s n e h =
+    let k : length (take n l) ≡ n = length-take-le n l h in
+    let m : 0 + length s ≡ n = omega arith in
+    rw (sets-eq s (take n l) 0 (omega arith), sets-eq s l 0 (omega arith), m, drop_of_length-le (take n l) {i = n} (omega arith), append-nil s)

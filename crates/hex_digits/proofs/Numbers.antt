@@ -3,13 +3,14 @@
 use mathlib.Core.Path.{◌≡◌, refl, sym, ap, ap₂, ◌∙◌}
 use mathlib.Core.List.{List, [], ◌∷◌, ◌++◌}
 use Prim.Native.Nat.{ℕ, zero, suc, ◌+◌, ◌-◌, ◌*◌, ◌/◌, ◌%◌, ◌^◌, ◌≤◌, ◌<◌}
-use native.Mathlib.Nat.{pow-suc, pow-succ', one-le-pow, pow-le-pow_right, mod-lt, mod-eq_of_lt, mod-one, mul_assoc, mul-add-div_right, mul-add-mod_self_right}
+use native.Mathlib.Nat.{pow-suc, pow-succ', one-le-pow, pow-le-pow_right, mod-lt, mod-eq_of_lt, mod-one, mul_assoc, mul-add-div_right, mul-add-mod_self_right, div-one, zero-add}
 use native.Mathlib.Numerals.{add-one}
 use native.Mathlib.Omega.{arith}
 use lib.Arith.{digits_div, digits_lt, mod-mul}
 use lib.ListN.{length, get_or, take, drop, length-append, length-drop}
-use lib.Seq.{take-suc, length-take-le, get_or-drop}
+use lib.Seq.{take_all, take-suc, length-take-le, get_or-drop}
 use mathlib.Core.Bool.{true}
+use Rattle.std.specs.Int.{w32, to_be_bytes, bytes_high_first}
 use Rattle.hex_digits.specs.Lines.{Bytes, well_formed, bytes_of}
 use Rattle.hex_digits.proofs.Lines.{take_bytes, drop_bytes, well_formed_length, well_formed_bytes}
 use Rattle.hex_digits.specs.Numbers.{number_of, bytes_for}
@@ -45,17 +46,30 @@ unfolding bytes_for
 length_bytes_for zero n = refl
 length_bytes_for (suc w) n = ap suc (length_bytes_for w n)
 
-pub bytes_for_at : (w n k : ℕ) → k < w → get_or (bytes_for w n) k 0 ≡ n / 256 ^ (w - 1 - k) % 256
-unfolding bytes_for
-bytes_for_at zero n k h = absurd (omega arith)
-bytes_for_at (suc w) n zero h = let e : suc w - 1 - 0 ≡ w = omega arith in rw e
-bytes_for_at (suc w) n (suc k) h = let e : suc w - 1 - suc k ≡ w - 1 - k = omega arith in rw e (bytes_for_at w n k (omega arith))
-
 pub bytes_for_bytes : (w n : ℕ) → Bytes (bytes_for w n)
 unfolding bytes_for
 bytes_for_bytes zero n k = omega arith
 bytes_for_bytes (suc w) n zero = mod-lt (n / 256 ^ w) (omega arith)
 bytes_for_bytes (suc w) n (suc k) = bytes_for_bytes w n k
+
+-- the bytes of a `u32`, and of these the low ones
+high_first : (w n : ℕ) → bytes_high_first w n ≡ bytes_for w n
+unfolding bytes_for
+high_first zero n = refl
+high_first (suc zero) n = rw div-one
+high_first (suc (suc w)) n = ap (λ (s : List ℕ). n / 256 ^ suc w % 256 ∷ s) (high_first (suc w) n)
+
+drop_for : (k w n : ℕ) → drop k (bytes_for (k + w) n) ≡ bytes_for w n
+unfolding bytes_for
+drop_for zero w n = rw zero-add
+drop_for (suc k) w n = let e : suc k + w ≡ suc (k + w) = omega arith in rw e (drop_for k w n)
+
+pub bytes_low : (w n : ℕ) (b : List ℕ) → w ≤ 4 → b ≡ to_be_bytes w32 n → take (4 - (4 - w)) (drop (4 - w) b) ≡ bytes_for w n
+bytes_low w n b h p =
+    let e : 4 - w + w ≡ 4 = omega arith in
+    let d : drop (4 - w) b ≡ bytes_for w n = ap (drop (4 - w)) (p ∙ high_first 4 n) ∙ (rw e at (drop_for (4 - w) w n)) in
+    let l = length_bytes_for w n in
+    rw d (take_all (4 - (4 - w)) (bytes_for w n) (omega arith))
 
 -- ---- both ways
 

@@ -2,18 +2,16 @@
 -- Assumes nothing.
 use mathlib.Core.Path.{◌≡◌, refl, sym, ap, ap₂, ◌∙◌}
 use mathlib.Core.List.{List, [], ◌∷◌, ◌++◌, map}
-use Prim.Native.Nat.{ℕ, zero, suc, ◌≤◌}
+use Prim.Native.Nat.{ℕ, ◌≤◌}
 use native.Mathlib.Omega.{arith}
 use lib.ListN.{length, get_or, take, drop, length-map, length-append}
 use lib.Seq.{take_at}
 use Rattle.words.specs.Words.{name_id}
-use Rattle.search.specs.Answers.{rows_in, search_of, places_given, Columns, room_of, Searched}
-use Rattle.search.specs.declared.Answer.{Answer}
-use Rattle.search.specs.declared.Answer.TheVariants.{Found, Refused as SearchRefused}
+use Rattle.search.specs.Answers.{Answer, Found, rows_in, search_of, places_given, Columns, room_of, Searched}
 use Rattle.statements.proofs.Demands.{searches}
 use Rattle.importer.specs.declared.Settings.{Settings}
 use Rattle.importer.specs.declared.Outcome.{Outcome}
-use Rattle.importer.specs.declared.Outcome.TheVariants.{Belongs, Unresolved, Ambiguous, Refused}
+use Rattle.importer.specs.declared.Outcome.TheVariants.{Belongs, Unresolved, Ambiguous}
 use Rattle.importer.specs.Import.{row_room, outcome_from, answer_to, listed_for, outcome_of, typed_in}
 
 -- ---- the rows of a search
@@ -60,37 +58,22 @@ pub outcome_typed : (words : List ℕ) (s : Settings) (line name : List ℕ) (o 
 unfolding outcome_of
 outcome_typed words s line name o e f = f ∙ ap (λ (n : List ℕ). outcome_from (answer_to words s n) (listed_for words s n)) e
 
--- ---- the outcome by an answer and the ids of its rows
+-- ---- the outcome by the ids of the rows of an answered search
 
-first_of : (l : List ℕ) (touches p q : ℕ) → 1 ≤ length l → Belongs (get_or l 0 0) ≡ outcome_from (Found 1 touches p q) (take 1 l)
-unfolding outcome_from
-first_of [] touches p q h = absurd (omega arith)
-first_of (x ∷ l) touches p q h = refl
-
-several : (rows : ℕ) (l : List ℕ) (touches p q : ℕ) → (rows ≡ 0 → ⊥) → (rows ≡ 1 → ⊥) → rows ≤ length l
-    → Ambiguous ≡ outcome_from (Found rows touches p q) (take rows l)
-unfolding outcome_from
-several zero l touches p q n o h = absurd (n refl)
-several (suc zero) l touches p q n o h = absurd (o refl)
-several (suc (suc k)) [] touches p q n o h = absurd (omega arith)
-several (suc (suc k)) (x ∷ []) touches p q n o h = absurd (omega arith)
-several (suc (suc k)) (x ∷ y ∷ l) touches p q n o h = refl
-
-module _ (a : Answer) (ids : List ℕ) where
-  pub from_refused : (number touches : ℕ) → a ≡ SearchRefused number touches → Refused number ≡ outcome_from a (take (rows_in a) ids)
+module _ (rows touches p q : ℕ) where
+  pub from_none : (l : List ℕ) → length l ≡ 0 → Unresolved ≡ outcome_from (Found rows touches p q) l
   unfolding outcome_from
-  from_refused number touches e = rw e
+  from_none [] e = refl
+  from_none (x ∷ l) e = absurd (omega arith)
 
-  module _ (rows touches p q : ℕ) (e : a ≡ Found rows touches p q) where
-    pub from_none : rows ≡ 0 → Unresolved ≡ outcome_from a (take (rows_in a) ids)
-    unfolding outcome_from
-    from_none z = rw (e, z)
+  pub from_one : (l : List ℕ) → length l ≡ 1 → Belongs (get_or l 0 0) ≡ outcome_from (Found rows touches p q) l
+  unfolding outcome_from
+  from_one [] e = absurd (omega arith)
+  from_one (x ∷ []) e = refl
+  from_one (x ∷ y ∷ l) e = absurd (omega arith)
 
-    pub from_some : rows_in a ≡ rows
-    from_some = ap rows_in e
-
-    pub from_one : rows ≡ 1 → rows_in a ≤ length ids → Belongs (get_or ids 0 0) ≡ outcome_from a (take (rows_in a) ids)
-    from_one z h = let b = from_some in let k : 1 ≤ length ids = omega arith in rw (e, z) (first_of ids touches p q k)
-
-    pub from_many : (rows ≡ 0 → ⊥) → (rows ≡ 1 → ⊥) → rows_in a ≤ length ids → Ambiguous ≡ outcome_from a (take (rows_in a) ids)
-    from_many n o h = let b = from_some in let k : rows ≤ length ids = omega arith in rw e (several rows ids touches p q n o k)
+  pub from_many : (l : List ℕ) → 2 ≤ length l → Ambiguous ≡ outcome_from (Found rows touches p q) l
+  unfolding outcome_from
+  from_many [] h = absurd (omega arith)
+  from_many (x ∷ []) h = absurd (omega arith)
+  from_many (x ∷ y ∷ l) h = refl

@@ -6,13 +6,13 @@ use Prim.Native.Nat.{ℕ, suc, ◌+◌, ◌≤◌, ◌<◌}
 use native.Mathlib.Numerals.{add-one}
 use native.Mathlib.Omega.{arith}
 use lib.ListN.{length, get_or, set, take, drop, length-append, length-map, length-drop, length-set}
-use lib.Seq.{take-suc, take-suc-set, take-set-le, take_all, drop-cons, set_at, length-take-le}
+use lib.Seq.{take-suc, take-suc-set, take_all, drop-cons, set_at, length-take-le}
 use Rattle.lines.specs.Lines.{lines_of}
 use Rattle.weeks.specs.Pairs.{week_of, pair_of, entry_of, over}
 use Rattle.importer.specs.declared.Settings.{Settings}
 use Rattle.importer.specs.declared.Outcome.{Outcome}
 use Rattle.importer.specs.declared.Outcome.TheVariants.{Belongs, Unresolved, Ambiguous, Refused}
-use Rattle.importer.specs.Import.{day_in, reading_in, outcome_of, case_of, value_of, entry_from, entry_count, entry_in, entries_of, Outcomes, as_outcomes, outcomes_over}
+use Rattle.importer.specs.Import.{day_in, reading_in, outcome_of, case_of, value_of, entry_from, entry_in, entries_of, Outcomes, as_outcomes, outcomes_over}
 use Rattle.importer.specs.Steps.{Entered, Taken}
 
 -- ---- one number more over a list
@@ -25,6 +25,10 @@ over_snoc l a n x e h =
 pub length_over : (l a : List ℕ) → length l ≤ length a → length (over l a) ≡ length a
 length_over l a h = let m = length-append l (drop (length l) a) in let n = length-drop (length l) a in omega arith
 
+-- the first numbers of a table, put over a list
+pub put_over : (n : ℕ) (table column part : List ℕ) → part ≡ take n table → n ≤ length table → part ++ drop n column ≡ over (take n table) column
+put_over n table column part e h = let m : length (take n table) ≡ n = length-take-le n table h in rw (e, m)
+
 -- ---- an entry
 
 -- none or one
@@ -35,21 +39,18 @@ entry_few Unresolved day reading = omega arith
 entry_few Ambiguous day reading = omega arith
 entry_few (Refused number) day reading = omega arith
 
-pub count_few : (o : Outcome) → entry_count o ≤ 1
-count_few (Belongs id) = omega arith
-count_few Unresolved = omega arith
-count_few Ambiguous = omega arith
-count_few (Refused number) = omega arith
-
--- as the code puts it: always, and counted where the line belongs
-pub entered : (o : Outcome) (day reading k : ℕ) (before : List ℕ) (x c : ℕ) → k < length before → x ≡ entry_of (pair_of (value_of o) (week_of day)) reading → c ≡ entry_count o
-    → Entered o day reading k before (set before k x) (k + c)
+-- as the code puts it: an id's entry, and of any other outcome none
+pub entered : (o : Outcome) (id day reading k : ℕ) (before : List ℕ) (x : ℕ) → k < length before → o ≡ Belongs id → x ≡ entry_of (pair_of id (week_of day)) reading
+    → Entered o day reading k before (set before k x) (k + 1)
 unfolding entry_from
-entered (Belongs id) day reading k before x c h e f =
-    record { entries = rw (f, add-one, e) (take-suc-set before k (entry_of (pair_of id (week_of day)) reading) h); count = rw f; room = length-set before k x }
-entered Unresolved day reading k before x c h e f = let z : k + c ≡ k = omega arith in record { entries = rw (z, append-nil) (take-set-le k before k x (omega arith)); count = rw f; room = length-set before k x }
-entered Ambiguous day reading k before x c h e f = let z : k + c ≡ k = omega arith in record { entries = rw (z, append-nil) (take-set-le k before k x (omega arith)); count = rw f; room = length-set before k x }
-entered (Refused number) day reading k before x c h e f = let z : k + c ≡ k = omega arith in record { entries = rw (z, append-nil) (take-set-le k before k x (omega arith)); count = rw f; room = length-set before k x }
+entered o id day reading k before x h b e = record { entries = rw (b, add-one, e) (take-suc-set before k (entry_of (pair_of id (week_of day)) reading) h); count = rw b; room = length-set before k x }
+
+pub not_entered : (o : Outcome) (day reading k : ℕ) (before : List ℕ) → ((id : ℕ) → o ≡ Belongs id → ⊥) → Entered o day reading k before before k
+unfolding entry_from
+not_entered (Belongs id) day reading k before n = absurd (n id refl)
+not_entered Unresolved day reading k before n = record { entries = rw append-nil; count = omega arith; room = refl }
+not_entered Ambiguous day reading k before n = record { entries = rw append-nil; count = omega arith; room = refl }
+not_entered (Refused number) day reading k before n = record { entries = rw append-nil; count = omega arith; room = refl }
 
 module _ (words : List ℕ) (s : Settings) where
   pub entries_snoc : (ls : List (List ℕ)) (l : List ℕ) → entries_of words s (ls ++ (l ∷ [])) ≡ entries_of words s ls ++ entry_in words s l
@@ -153,14 +154,3 @@ told_all log words s n o₀ o e k q t =
 pub taken_few : (log words : List ℕ) (s : Settings) (before after : Outcomes) (e : List ℕ) (k : ℕ) → Taken log words s before after e k
     → length (lines_of log) ≤ 1024 → k ≤ 1024
 taken_few log words s before after e k t h = let a = entries_few words s (lines_of log) in let b = t.count in omega arith
-
--- ---- a copy
-
-pub copied_next : (src dst₀ : List ℕ) (i : ℕ) → i < length src → length src ≤ length dst₀ → set (over (take i src) dst₀) i (get_or src i 0) ≡ over (take (i + 1) src) dst₀
-copied_next src dst₀ i h l = rw (add-one, take-suc src i 0 h) (over_snoc (take i src) dst₀ i (get_or src i 0) (length-take-le i src (omega arith)) (omega arith))
-
-pub copied_length : (src dst₀ : List ℕ) (i : ℕ) → i ≤ length src → length src ≤ length dst₀ → length (over (take i src) dst₀) ≡ length dst₀
-copied_length src dst₀ i h l = let a = length-take-le i src h in length_over (take i src) dst₀ (omega arith)
-
-pub copied_all : (src dst₀ : List ℕ) (i : ℕ) → length src ≤ i → over (take i src) dst₀ ≡ over src dst₀
-copied_all src dst₀ i h = ap (λ (l : List ℕ). over l dst₀) (take_all i src h)

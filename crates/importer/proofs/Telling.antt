@@ -10,8 +10,8 @@ use Rattle.laws.specs.Lists.{member, Ascending}
 use Rattle.laws.proofs.Members.{member_nil, member_head, member_tail, member_one}
 use Rattle.laws.proofs.Sort.{above_member, ascending_above}
 use Rattle.search.specs.Answers.{number_in}
-use Rattle.search.specs.declared.Answer.{Answer}
-use Rattle.search.specs.declared.Answer.TheVariants.{Found, Refused as SearchRefused}
+use Rattle.search.specs.Answers.{Answer}
+use Rattle.search.specs.Answers.{Found, Refused as SearchRefused}
 use Rattle.importer.specs.declared.Outcome.TheVariants.{Belongs, Unresolved, Ambiguous, Refused}
 use Rattle.importer.specs.Import.{case_of, value_of, outcome_from}
 use Rattle.importer.specs.Demands.{Tells}

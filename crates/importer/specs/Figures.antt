@@ -2,7 +2,7 @@
 -- What each search answers is given here: the figures of a search are in `statements`. The same log is run by the program `importer`.
 -- Assumes nothing.
 use Rattle.std.specs.Prelude.{◌≡◌, List, [], ◌∷◌, ◌++◌, map, ℕ}
-use Rattle.search.specs.declared.Answer.TheVariants.{Found, Refused as SearchRefused}
+use Rattle.search.specs.Answers.{Found, Refused as SearchRefused}
 use Rattle.weeks.specs.Pairs.{missing, columns_of, as_columns}
 use Rattle.importer.specs.declared.Outcome.{Outcome}
 use Rattle.importer.specs.declared.Outcome.TheVariants.{Belongs, Unresolved, Ambiguous, Refused}

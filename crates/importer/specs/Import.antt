@@ -1,21 +1,21 @@
 -- The import of a log: the outcome of each line, the entries of the lines that belong, the refusals of the whole, and what is written where.
 -- What a 4C frame is: specs/Frames.antt of `log_frames`; a search: specs/Answers.antt of `search`; the pairs of entries: specs/Pairs.antt of `weeks`.
 -- Assumes nothing.
-use Rattle.std.specs.Prelude.{Bool, cond, not, ◌&&◌, List, [], ◌∷◌, ◌++◌, map, ℕ, ◌+◌, min, length, get_or, eqb, leb}
+use Rattle.std.specs.Prelude.{Bool, cond, not, ◌&&◌, List, [], ◌∷◌, ◌++◌, map, Result, Ok, Err, ℕ, ◌+◌, min, length, get_or, eqb, leb}
+use Rattle.refusals.specs.declared.LineRefusal.{LineRefusal}
+use Rattle.refusals.specs.Refusals.{refusal_number}
 use Rattle.laws.specs.Cases.{Case, case, first_case}
 use Rattle.lines.specs.Lines.{lines_of}
 use Rattle.fields.specs.Layouts.{is_frame, fields_in, name_in}
 use Rattle.log_frames.specs.Frames.{log_frame}
 use Rattle.words.specs.Words.{name_id}
 use Rattle.index.specs.Good.{most_names}
-use Rattle.search.specs.Answers.{search_of, places_given}
-use Rattle.search.specs.declared.Answer.{Answer}
-use Rattle.search.specs.declared.Answer.TheVariants.{Found, Refused as SearchRefused}
+use Rattle.search.specs.Answers.{Answer, Found, Refused as SearchRefused, search_of, places_given}
 use Rattle.weeks.specs.Pairs.{week_of, pair_of, entry_of, pairs_of, Columns, room_of, columns_of, over, columns_over}
 use Rattle.importer.specs.declared.Settings.{Settings}
 use Rattle.importer.specs.declared.Outcome.{Outcome}
 use Rattle.importer.specs.declared.Outcome.TheVariants.{Belongs, Unresolved, Ambiguous, Refused}
-use Rattle.importer.specs.declared.Imported.{Imported}
+use Rattle.importer.specs.declared.Imported.{Imported as Answered}
 
 -- ---- what every search is made with
 
@@ -79,13 +79,6 @@ entry_from Unresolved day reading = []
 entry_from Ambiguous day reading = []
 entry_from (Refused number) day reading = []
 
--- how many that are
-abbrev pub entry_count : Outcome → ℕ
-entry_count (Belongs id) = 1
-entry_count Unresolved = 0
-entry_count Ambiguous = 0
-entry_count (Refused number) = 0
-
 module _ (words : List ℕ) (s : Settings) where
   abbrev pub entry_in : List ℕ → List ℕ
   entry_in line = entry_from (outcome_of words s line) (day_in line) (reading_in line)
@@ -138,6 +131,18 @@ outcome_room o = min (length o.cases) (length o.values)
 
 abbrev pub outcomes_over : List Outcome → Outcomes → Outcomes
 outcomes_over given o = record { cases = over (map case_of given) o.cases; values = over (map value_of given) o.values }
+
+-- what an import answers: its number, the line that it is about, from 1, or 0, and how many outcomes and pairs were written; and what the code answers,
+-- so set out
+pub record Imported : Type 0 where
+  pub number : ℕ
+  pub line : ℕ
+  pub lines : ℕ
+  pub pairs : ℕ
+
+abbrev pub imported_in : Result Answered LineRefusal → Imported
+imported_in (Ok x) = record { number = 0; line = 0; lines = x.lines; pairs = x.pairs }
+imported_in (Err r) = record { number = refusal_number r.refusal; line = r.line; lines = 0; pairs = 0 }
 
 module _ (log words : List ℕ) (s : Settings) where
   abbrev pub outcomes_in : List Outcome

@@ -5,14 +5,18 @@ use Rattle.lines.specs.Lines.{lines_of}
 use Rattle.weeks.specs.Pairs.{Columns, room_of}
 use Rattle.importer.specs.declared.Settings.{Settings}
 use Rattle.importer.specs.declared.Outcome.{Outcome}
-use Rattle.importer.specs.declared.Imported.{Imported}
-use Rattle.importer.specs.Import.{entry_from, verdict_on, Outcomes, outcomes_over, outcome_room, outcomes_in, entries_in, imported_of, outcomes_after, pairs_after}
+use Rattle.importer.specs.Import.{entry_from, verdict_on, Outcomes, outcomes_over, outcome_room, Imported, outcomes_in, entries_in, imported_of, outcomes_after, pairs_after}
 
--- the lines, judged: the first that is refused, or how many there are
-pub record JudgedAll (log : List ℕ) (no at n : ℕ) : Type 0 where
+-- the lines, judged, where none is refused: how many there are
+pub record AllGood (log : List ℕ) (n : ℕ) : Type 0 where
+  pub number : (verdict_on log).number ≡ 0
+  pub lines : n ≡ length (lines_of log)
+
+-- the first that is refused
+pub record FirstBad (log : List ℕ) (no at : ℕ) : Type 0 where
   pub number : no ≡ (verdict_on log).number
   pub line : at ≡ (verdict_on log).line
-  pub lines : no ≡ 0 → n ≡ length (lines_of log)
+  pub refused : no ≡ 0 → ⊥
 
 -- the entry of a line, put after k others; what stands beyond it is scratch
 pub record Entered (outcome : Outcome) (day reading k : ℕ) (before after : List ℕ) (r : ℕ) : Type 0 where

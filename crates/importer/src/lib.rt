@@ -2,16 +2,18 @@
 // Of the lookup it uses the search and the check of an index, and nothing of how they are made.
 #![tactic(auto)]
 
-ghost use Rattle.std.specs.Prelude.{◌≡◌, true, ◌+◌, ◌≤◌, ◌<◌, length, take};
+ghost use Rattle.std.specs.Prelude.{◌≡◌, true, ◌+◌, ◌≤◌, ◌<◌, length, take, MatchResult};
 ghost use Rattle.lines.specs.Lines.{lines_of};
 ghost use Rattle.fields.specs.Layouts.{is_frame};
 ghost use Rattle.log_frames.specs.Frames.{log_frame};
+ghost use Rattle.refusals.specs.Refusals.{refusal_number, outcome_number};
 ghost use Rattle.index.specs.Good.{good_of};
-ghost use Rattle.search.specs.Answers.{rows_in};
-ghost use Rattle.weeks.specs.Pairs.{as_columns, over};
-ghost use Rattle.importer.specs.Import.{answer_to, listed_for, verdict_on, day_in, reading_in, outcome_from, outcome_of, case_of, value_of, entry_count, judge_line, as_outcomes, outcome_room, settings, most_lines};
-ghost use Rattle.importer.specs.Steps.{JudgedAll, Taken, Entered, Imports};
+ghost use Rattle.search.specs.Answers.{answer_in, rows_in};
+ghost use Rattle.weeks.specs.Pairs.{as_columns};
+ghost use Rattle.importer.specs.Import.{answer_to, listed_for, verdict_on, day_in, reading_in, outcome_from, outcome_of, case_of, value_of, judge_line, as_outcomes, outcome_room, settings, imported_in, most_lines};
+ghost use Rattle.importer.specs.Steps.{AllGood, FirstBad, Taken, Entered, Imports};
 
+use refusals::{LineRefusal, Refusal};
 use search::Answer;
 
 // The most lines of a log.
@@ -41,11 +43,9 @@ pub enum Outcome {
     Refused { number: u8 },
 }
 
-// What an import answers: its number, the line that it is about, from 1, or 0, and how many outcomes and pairs were written.
+// What an import answers: how many outcomes and pairs were written.
 #[derive(Clone, Copy)]
 pub struct Imported {
-    pub number: u8,
-    pub line: u32,
     pub lines: u32,
     pub pairs: u32,
 }
@@ -53,70 +53,49 @@ pub struct Imported {
 // ---- the lines
 
 // Judges the line after `count` others.
-fn judge_line(line: &[u8], count: usize) -> u8
-    ensures { result ≡ judge_line count line.now }
+fn judge_line(line: &[u8], count: usize) -> Result<(), Refusal>
+    ensures { outcome_number result ≡ judge_line count line.now }
 {
     if MOST_LINES <= count {
-        return 10;
+        return Err(Refusal::TooMany);
     }
     let mut name = [0u8; fields::LONGEST_NAME];
-    let read = log_frames::read_log(line, &mut name);
-    read.number
+    log_frames::read_log(line, &mut name)?;
+    Ok(())
 }
 
-// What the lines come to: the first that is refused, or how many there are.
-#[derive(Clone, Copy)]
-struct Judged {
-    number: u8,
-    line: u32,
-    lines: usize,
-}
-
-// Judges the lines until one is refused.
-fn judge_lines(log: &[u8]) -> Judged
-    ensures { JudgedAll log.now result.number result.line result.lines }
+// Judges the lines until one is refused, and answers how many there are.
+fn judge_lines(log: &[u8]) -> Result<usize, LineRefusal>
+    ensures { MatchResult result (λ n. AllGood log.now n) (λ bad. FirstBad log.now (refusal_number bad.refusal) bad.line) }
 {
     let mut n = 0;
-    let mut at = 0;
-    while at < log.len() {
-        let end = lines::line_end(log, at);
-        let number = judge_line(&log[at..end], n);
-        if number != 0 {
+    for line in log.split_inclusive(|b| *b == b'\n') {
+        if let Err(refusal) = judge_line(line, n) {
             let line = n as u32 + 1;
-            return Judged {
-                number,
-                line,
-                lines: 0,
-            };
+            return Err(LineRefusal { refusal, line });
         }
         n += 1;
-        at = end;
     }
-    Judged {
-        number: 0,
-        line: 0,
-        lines: n,
-    }
+    Ok(n)
 }
 
 // ---- one line
 
 // The outcome by an answer and the ids of its rows.
 fn outcome_from(answer: Answer, ids: &[u32]) -> Outcome
-    requires { rows_in answer ≤ length ids.now }
-    ensures { result ≡ outcome_from answer (take (rows_in answer) ids.now) }
+    requires { rows_in (answer_in answer) ≤ length ids.now }
+    ensures { result ≡ outcome_from (answer_in answer) (take (rows_in (answer_in answer)) ids.now) }
 {
     match answer {
-        Answer::Found { rows, .. } => {
-            if rows == 0 {
-                return Outcome::Unresolved;
-            }
-            if rows == 1 {
-                return Outcome::Belongs { id: ids[0] };
-            }
-            Outcome::Ambiguous
+        Ok(found) => match &ids[..found.rows as usize] {
+            [] => Outcome::Unresolved,
+            [id] => Outcome::Belongs { id: *id },
+            _ => Outcome::Ambiguous,
+        },
+        Err(refused) => {
+            let number = refused.refusal.number();
+            Outcome::Refused { number }
         }
-        Answer::Refused { number, .. } => Outcome::Refused { number },
     }
 }
 
@@ -159,13 +138,12 @@ fn hear(good: bool, line: &[u8], s: Settings, words: &[u32]) -> Heard
     ensures { (result.outcome ≡ outcome_of words.now s line.now) × (result.day ≡ day_in line.now) × (result.reading ≡ reading_in line.now) }
 {
     let mut name = [0u8; fields::LONGEST_NAME];
-    let read = log_frames::read_log(line, &mut name);
-    let len = read.len;
-    let outcome = outcome_of(good, &name[..len], s, words);
+    let log = log_frames::read_log(line, &mut name).unwrap();
+    let outcome = outcome_of(good, &name[..log.len], s, words);
     Heard {
         outcome,
-        day: read.day,
-        reading: read.reading,
+        day: log.day,
+        reading: log.reading,
     }
 }
 
@@ -187,21 +165,8 @@ fn value_of(outcome: Outcome) -> u32
 {
     match outcome {
         Outcome::Belongs { id } => id,
-        Outcome::Unresolved => 0,
-        Outcome::Ambiguous => 0,
-        Outcome::Refused { number } => number as u32,
-    }
-}
-
-// How many entries a line with this outcome has.
-fn entries_of(outcome: Outcome) -> usize
-    ensures { result ≡ entry_count outcome }
-{
-    match outcome {
-        Outcome::Belongs { .. } => 1,
-        Outcome::Unresolved => 0,
-        Outcome::Ambiguous => 0,
-        Outcome::Refused { .. } => 0,
+        Outcome::Unresolved | Outcome::Ambiguous => 0,
+        Outcome::Refused { number } => u32::from(number),
     }
 }
 
@@ -210,8 +175,13 @@ fn add_entry(outcome: Outcome, day: u16, reading: u16, entries: &mut [u64], k: u
     requires { k < length entries.old }
     ensures { Entered outcome day reading k entries.old entries.new result }
 {
-    entries[k] = weeks::entry(value_of(outcome), day, reading);
-    k + entries_of(outcome)
+    match outcome {
+        Outcome::Belongs { id } => {
+            entries[k] = weeks::entry(id, day, reading);
+            k + 1
+        }
+        _ => k,
+    }
 }
 
 // Takes the lines, all of them frames: their outcomes and their entries go to the tables. Answers how many entries there are.
@@ -227,46 +197,18 @@ fn take_lines(
     requires { (good ≡ good_of words.now) × ((verdict_on log.now).number ≡ 0) × (length cases.old ≡ most_lines) × (length values.old ≡ most_lines) × (length entries.old ≡ most_lines) }
     ensures { Taken log.now words.now s (as_outcomes cases.old values.old) (as_outcomes cases.new values.new) entries.new result }
 {
-    let mut n = 0;
     let mut k = 0;
-    let mut at = 0;
-    while at < log.len() {
-        let end = lines::line_end(log, at);
-        let heard = hear(good, &log[at..end], s, words);
+    for (n, line) in log.split_inclusive(|b| *b == b'\n').enumerate() {
+        let heard = hear(good, line, s, words);
         let outcome = heard.outcome;
         cases[n] = case_of(outcome);
         values[n] = value_of(outcome);
         k = add_entry(outcome, heard.day, heard.reading, entries, k);
-        n += 1;
-        at = end;
     }
     k
 }
 
 // ---- the whole
-
-// Copies numbers to the start of a column, which has the room.
-fn copy(src: &[u32], dst: &mut [u32])
-    requires { length src.now ≤ length dst.old }
-    ensures { dst.new ≡ over src.now dst.old }
-{
-    let mut i = 0;
-    while i < src.len() {
-        dst[i] = src[i];
-        i += 1;
-    }
-}
-
-fn refused(number: u8, line: u32) -> Imported
-    ensures { result ≡ record { number = number; line = line; lines = 0; pairs = 0 } }
-{
-    Imported {
-        number,
-        line,
-        lines: 0,
-        pairs: 0,
-    }
-}
 
 // Imports the n lines of a log, all of them frames, that the columns of outcomes have room for.
 fn import_lines(
@@ -280,9 +222,9 @@ fn import_lines(
     weeks: &mut [u32],
     sums: &mut [u32],
     counts: &mut [u32],
-) -> Imported
+) -> Result<Imported, LineRefusal>
     requires { ((verdict_on log.now).number ≡ 0) × (n ≡ length (lines_of log.now)) × (n ≤ outcome_room (as_outcomes cases.old values.old)) }
-    ensures { Imports log.now words.now s (as_outcomes cases.old values.old) (as_columns ids.old weeks.old sums.old counts.old) (as_outcomes cases.new values.new) (as_columns ids.new weeks.new sums.new counts.new) result }
+    ensures { Imports log.now words.now s (as_outcomes cases.old values.old) (as_columns ids.old weeks.old sums.old counts.old) (as_outcomes cases.new values.new) (as_columns ids.new weeks.new sums.new counts.new) (imported_in result) }
 {
     let mut case_table = [0u32; MOST_LINES];
     let mut value_table = [0u32; MOST_LINES];
@@ -299,17 +241,11 @@ fn import_lines(
         &mut entries,
     );
     let paired = weeks::pairs(&mut entries[..k], &mut spare[..k], ids, weeks, sums, counts);
-    if paired.number != 0 {
-        return refused(8, 0);
-    }
-    copy(&case_table[..n], cases);
-    copy(&value_table[..n], values);
-    Imported {
-        number: 0,
-        line: 0,
-        lines: n as u32,
-        pairs: paired.pairs,
-    }
+    let pairs = paired.map_err(|refusal| LineRefusal { refusal, line: 0 })?;
+    cases[..n].copy_from_slice(&case_table[..n]);
+    values[..n].copy_from_slice(&value_table[..n]);
+    let lines = n as u32;
+    Ok(Imported { lines, pairs })
 }
 
 // Imports a log.
@@ -326,20 +262,15 @@ pub fn import(
     weeks: &mut [u32],
     sums: &mut [u32],
     counts: &mut [u32],
-) -> Imported
-    ensures { Imports log.now words.now (settings measure p q allowance) (as_outcomes cases.old values.old) (as_columns ids.old weeks.old sums.old counts.old) (as_outcomes cases.new values.new) (as_columns ids.new weeks.new sums.new counts.new) result }
+) -> Result<Imported, LineRefusal>
+    ensures { Imports log.now words.now (settings measure p q allowance) (as_outcomes cases.old values.old) (as_columns ids.old weeks.old sums.old counts.old) (as_outcomes cases.new values.new) (as_columns ids.new weeks.new sums.new counts.new) (imported_in result) }
 {
-    let judged = judge_lines(log);
-    let number = judged.number;
-    if number != 0 {
-        return refused(number, judged.line);
-    }
-    let n = judged.lines;
-    if cases.len() < n {
-        return refused(8, 0);
-    }
-    if values.len() < n {
-        return refused(8, 0);
+    let n = judge_lines(log)?;
+    if cases.len().min(values.len()) < n {
+        return Err(LineRefusal {
+            refusal: Refusal::NoRoom,
+            line: 0,
+        });
     }
     let s = Settings {
         measure,

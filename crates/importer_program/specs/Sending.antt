@@ -3,8 +3,7 @@
 use Rattle.std.specs.Prelude.{◌≡◌, List, ℕ, ◌≤◌, length, take}
 use Rattle.reports.specs.Report.{report_of}
 
--- the first `len` bytes of a buffer are all of the output, and were answered: number 0
-pub record Output (input : List ℕ) (number len : ℕ) (out : List ℕ) : Type 0 where
-  pub answered : number ≡ 0
+-- the first `len` bytes of a buffer are all of the output
+pub record Output (input : List ℕ) (len : ℕ) (out : List ℕ) : Type 0 where
   pub within : len ≤ length out
   pub text : take len out ≡ report_of input

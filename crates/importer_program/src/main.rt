@@ -4,13 +4,13 @@
 // with status 1.
 #![tactic(auto)]
 
-ghost use Rattle.std.specs.Prelude.{◌≡◌, true, ◌+◌, ◌≤◌, length};
+ghost use Rattle.std.specs.Prelude.{◌≡◌, ◌+◌, ◌≤◌, length, IfOk};
+ghost use Rattle.std.specs.Io.KnownBytes.{Appends};
 ghost use Rattle.reports.specs.Report.{most_input, longest_report, report_of};
 ghost use Rattle.importer_program.specs.Sending.{Output};
 
 use std::io::{Error, Read, Write};
 use std::process::ExitCode;
-use streams::Input;
 
 // ---- reading
 
@@ -22,62 +22,48 @@ fn room() -> [u8; reports::MOST_INPUT + 1]
 }
 
 // Reads until the input ends or the room is full.
-fn read_input<R: Read>(reader: &mut R, space: &mut [u8]) -> Input
+fn read_input<R: Read>(reader: &mut R, space: &mut [u8]) -> Result<usize, Error>
     requires { length space.old ≡ most_input + 1 }
-    ensures { result.len ≤ length space.new }
+    ensures { IfOk result (λ len. len ≤ length space.new) }
 {
     streams::read_input(reader, space)
 }
 
 // ---- writing
 
-// What was handed over of the output: how many bytes, whether the writes took all of it, and why they did not.
-#[derive(Clone, Copy)]
-struct Sent {
-    bytes: usize,
-    whole: bool,
-    failure: Option<Error>,
-}
-
-// Hands over the output: the first `len` bytes of the buffer.
-fn hand_over<W: Write>(writer: &mut W, input: &[u8], number: u8, len: usize, out: &[u8]) -> Sent
-    requires { Output input.now number len out.now }
-    ensures { result.whole ≡ true → result.bytes ≡ length (report_of input.now) }
+// Hands over the output: the first `len` bytes of the buffer. It fails where a write did.
+fn hand_over<W: Write>(writer: &mut W, input: &[u8], len: usize, out: &[u8]) -> Result<(), Error>
+    requires { Output input.now len out.now }
+    ensures { IfOk result (λ _. Appends (W.contents writer.old) (W.contents writer.new) (report_of input.now)) }
 {
-    let output = streams::write_text(writer, &out[..len]);
-    let taken = output.taken;
-    Sent {
-        bytes: taken,
-        whole: taken == len,
-        failure: output.failure,
-    }
+    streams::write_text(writer, &out[..len]).map_err(|failed| failed.error)
 }
 
 // ---- importing
 
-// Imports the input, and hands over what came of it.
-fn import_input<W: Write>(writer: &mut W, input: &[u8], out: &mut [u8]) -> Sent
+// Imports the input, and hands over what came of it, for which the buffer has the room.
+fn import_input<W: Write>(writer: &mut W, input: &[u8], out: &mut [u8]) -> Result<(), Error>
     requires { length out.old ≡ longest_report }
-    ensures { result.whole ≡ true → result.bytes ≡ length (report_of input.now) }
+    ensures { IfOk result (λ _. Appends (W.contents writer.old) (W.contents writer.new) (report_of input.now)) }
 {
-    let written = reports::report(input, out);
-    hand_over(writer, input, written.number, written.len, out)
+    let len = reports::report(input, out).unwrap();
+    hand_over(writer, input, len, out)
 }
 
 fn main(rt: HostRuntime) -> ExitCode {
     let mut space = room();
-    let input = read_input(&mut rt.stdin(), &mut space);
-    if !input.whole {
-        let what = "importer: standard input cannot be read, so nothing is imported";
-        streams::fail(&rt, what, &input.failure);
-        return ExitCode::FAILURE;
-    }
-    let len = input.len;
+    let len = match read_input(&mut rt.stdin(), &mut space) {
+        Ok(len) => len,
+        Err(error) => {
+            let what = "importer: standard input cannot be read, so nothing is imported";
+            streams::fail(&rt, what, &error);
+            return ExitCode::FAILURE;
+        }
+    };
     let mut out = [0u8; reports::LONGEST_REPORT];
-    let sent = import_input(&mut rt.stdout(), &space[..len], &mut out);
-    if !sent.whole {
+    if let Err(error) = import_input(&mut rt.stdout(), &space[..len], &mut out) {
         let what = "importer: standard output cannot be written, so the import is not all there";
-        streams::fail(&rt, what, &sent.failure);
+        streams::fail(&rt, what, &error);
         return ExitCode::FAILURE;
     }
     ExitCode::SUCCESS

@@ -4,5 +4,6 @@ pub mod Keys
 mod Check
 mod Names
 mod Tally
+mod Ranges
 pub mod Total
 pub mod Limits

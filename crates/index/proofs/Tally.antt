@@ -1,5 +1,5 @@
 -- The tally of names while the lists are looked at: one posting more puts one more at its name's place, and nothing anywhere else.
--- Cited by the proofs of `list_good`, `lists_good` and `good`.
+-- Cited by the proofs of `list_good` and `lists_good`.
 -- Assumes nothing.
 use mathlib.Core.Path.{◌≡◌, sym, ap, subst, ◌∙◌}
 use mathlib.Core.Logic.{⊎_elim}
@@ -8,48 +8,43 @@ use mathlib.Core.List.{List, [], ◌∷◌, ◌++◌}
 use Prim.Native.Nat.{ℕ, ◌+◌, ◌-◌, ◌≤◌, ◌<◌}
 use native.Mathlib.Numerals.{add-one}
 use native.Mathlib.Omega.{arith}
-use lib.ListN.{length, get_or, take, set, replicate, length-take, get_or-replicate}
+use lib.ListN.{length, get_or, take, drop, set, replicate, length-take, get_or-replicate}
 use lib.Seq.{take-suc, take_all, get_or-take, get_or-set_same, get_or-set_other}
 use lib.Dec.{ltb, eqb}
 use borrow.Author.Tests.{lt-ltb, ltb-true, eq-eqb, ne_eqb, eqb-true}
 use Rattle.laws.specs.Lists.{member}
 use Rattle.laws.specs.Below.{all_below, sum_below, count_below}
-use Rattle.laws.specs.First.{first_from}
 use Rattle.laws.proofs.Lists.{member_append}
-use Rattle.laws.proofs.Below.{and_both, and_left, and_false_left, and_false_right, all_nil, all_at, all_ext, all_fails, any_of, any_at, sum_below_step, count_below_most}
-use Rattle.laws.proofs.First.{first_passes}
-use Rattle.laws.proofs.FirstFound.{first_found, all_more, pairs_more}
+use Rattle.laws.proofs.Below.{and_both, and_left, and_right, and_false_left, and_false_right, all_nil, all_at, all_ext, all_fails, any_of, any_none, sum_below_step, count_below_most}
+use Rattle.laws.proofs.FirstFound.{all_more, pairs_more}
 use Rattle.laws.proofs.Order.{eq_or_ne}
 use Rattle.laws.proofs.Tests.{test_fails}
 use Rattle.laws.proofs.Ascending.{rises, rises_apart, member_nowhere}
-use Rattle.words.specs.Words.{name_count, row_count, name_id, name_size, row_size, row_place, row_length, posting, list_start, list_at}
-use Rattle.index.specs.Good.{most_names, head_good, names_good, rows_good, is_name, list_good, lists_with, lists_good, good_of}
-use Rattle.index.specs.Check.{Checked, Tallied, name_for}
+use Rattle.words.specs.Words.{name_count, row_count, name_id, name_size, row_size, row_place, row_length, posting, postings_start, list_at}
+use Rattle.index.specs.Good.{most_names, is_name, list_good, lists_with, lists_good}
+use Rattle.index.specs.Check.{Checked, Tallied, NameAt}
 use Rattle.index.proofs.Facts.{head_facts, names_facts, rows_facts, list_within, length_list, list_get_d}
 
--- ---- an id is a name of a size where its place is one
+-- ---- an id is a name of a size where it has a place
 
-name_test : List ℕ → ℕ → ℕ → ℕ → Bool
-name_test w y id i = eqb (name_id w i) id && eqb (name_size w i) y
+named_found : (w : List ℕ) (y id at : ℕ) → NameAt w y id at → is_name w y id ≡ true
+unfolding is_name
+named_found w y id at n =
+    any_of (name_count w) _ at n.within (and_both _ _ (eq-eqb (name_id w at) id n.id_is) (eq-eqb (name_size w at) y n.size_is))
 
-named_found : (w : List ℕ) (y id : ℕ) → name_for w y id < name_count w → (is_name w y id ≡ true) × (name_id w (name_for w y id) ≡ id)
-unfolding name_for is_name name_test
-named_found w y id l =
-    let t = name_test w y id in
-    let at = first_from t (name_count w) 0 in
-    let e : t at ≡ true = first_found t (name_count w) 0 (omega arith) in
-    (any_of (name_count w) t at l e, eqb-true (name_id w at) id (and_left (eqb (name_id w at) id) (eqb (name_size w at) y) e))
-
-named_missing : (w : List ℕ) (y id : ℕ) → name_count w ≤ name_for w y id → is_name w y id ≡ false
-unfolding name_for is_name name_test
-named_missing w y id l =
-    test_fails (is_name w y id)
+named_missing : (w : List ℕ) (y id : ℕ) → ((at : ℕ) → NameAt w y id at → ⊥) → is_name w y id ≡ false
+unfolding is_name
+named_missing w y id none =
+    any_none (name_count w) _
+    (λ i l.
+    test_fails (eqb (name_id w i) id && eqb (name_size w i) y)
     (λ e.
-    let t = name_test w y id in
-    let v = any_at (name_count w) t e in
-    let h = v.1 in
-    let p = (first_passes t (name_count w) 0 v.0 (omega arith) (omega arith) v.2).1 in
-    omega arith)
+    none i
+    record {
+      within = l;
+      id_is = eqb-true (name_id w i) id (and_left (eqb (name_id w i) id) (eqb (name_size w i) y) e);
+      size_is = eqb-true (name_size w i) y (and_right (eqb (name_id w i) id) (eqb (name_size w i) y) e);
+    }))
 
 -- how many of the first r lists hold the name at i
 abbrev pub rows_holding : List ℕ → ℕ → ℕ → ℕ
@@ -62,10 +57,6 @@ module _ (w : List ℕ) (r : ℕ) where
   -- the k-th id of row r
   abbrev pub id_at : ℕ → ℕ
   id_at k = posting w (row_place w r + k)
-
-  pub id_read : (k first : ℕ) → first ≡ list_start w r → get_or w (first + k) 0 ≡ id_at k
-  unfolding posting
-  id_read k first e = ap (λ (m : ℕ). get_or w m 0) (omega arith)
 
   abbrev pub next_at : ℕ → Bool
   next_at k = ltb (posting w (row_place w r + k)) (posting w (row_place w r + (k + 1)))
@@ -99,7 +90,7 @@ module _ (w : List ℕ) (r : ℕ) where
       (all_fails (row_length w r - 1) next_at (k - 1) (omega arith)
       (test_fails (next_at (k - 1)) (λ t. let u = ltb-true (posting w (row_place w r + (k - 1))) (posting w (row_place w r + (k - 1 + 1))) t in omega arith)))
 
-  pub list_unnamed : (k : ℕ) → k < row_length w r → name_count w ≤ name_for w (row_size w r) (id_at k) → list_good w r ≡ false
+  pub list_unnamed : (k : ℕ) → k < row_length w r → ((at : ℕ) → NameAt w (row_size w r) (id_at k) at → ⊥) → list_good w r ≡ false
   unfolding list_good
   list_unnamed k l h =
       and_false_right (all_below (row_length w r - 1) next_at) (all_below (row_length w r) named_at)
@@ -139,16 +130,11 @@ module _ (w : List ℕ) (good : Checked w) (r : ℕ) (row : r < row_count w) whe
         let up = rises (k + 1) (id_at w r) (λ j h. ltb-true _ _ (all_at (k + 1 - 1) (next_at w r) next_more j (omega arith))) i k (omega arith) (omega arith) in
         omega arith)
 
-    module _ (at : ℕ) (found : at ≡ name_for w (row_size w r) (id_at w r k)) (name : at < name_count w) where
-      at_name : (is_name w (row_size w r) (id_at w r k) ≡ true) × (name_id w at ≡ id_at w r k)
-      at_name =
-          let v = named_found w (row_size w r) (id_at w r k) (subst (λ (i : ℕ). i < name_count w) found name) in
-          (v.0, ap (name_id w) found ∙ v.1)
-
+    module _ (at : ℕ) (found : NameAt w (row_size w r) (id_at w r k) at) where
       at_before : get_or tally at 0 ≡ rows_holding w r at
       at_before =
-          let e = sofar.counts at name in
-          let f : member (name_id w at) (take k (list_at w r)) ≡ false = ap (λ (x : ℕ). member x (take k (list_at w r))) at_name.1 ∙ fresh in
+          let e = sofar.counts at found.within in
+          let f : member (name_id w at) (take k (list_at w r)) ≡ false = ap (λ (x : ℕ). member x (take k (list_at w r))) found.id_is ∙ fresh in
           let g : rows_holding w r at + cond (member (name_id w at) (take k (list_at w r))) 1 0 ≡ rows_holding w r at + 0 =
           ap (λ (b : Bool). rows_holding w r at + cond b 1 0) f in
           omega arith
@@ -166,7 +152,7 @@ module _ (w : List ℕ) (good : Checked w) (r : ℕ) (row : r < row_count w) whe
           record {
             within = omega arith;
             next = next_more;
-            named = all_more (named_at w r) k sofar.named at_name.0;
+            named = all_more (named_at w r) k sofar.named (named_found w (row_size w r) (id_at w r k) at found);
             counts = counts;
           }
         where
@@ -175,18 +161,18 @@ module _ (w : List ℕ) (good : Checked w) (r : ℕ) (row : r < row_count w) whe
 
           same : get_or (set tally at (get_or tally at 0 + 1)) at 0 ≡ rows_holding w r at + cond (member (name_id w at) (take (k + 1) (list_at w r))) 1 0
           same =
-              let long' : at < length tally = omega arith in
+              let long' : at < length tally = omega (arith, found.within) in
               let a = get_or-set_same tally at (get_or tally at 0 + 1) 0 long' in
               let b = at_before in
               let m : member (name_id w at) (take (k + 1) (list_at w r)) ≡ true =
-              member_more (name_id w at) ∙ rw (eq-eqb (name_id w at) (id_at w r k) at_name.1) (or-true (member (name_id w at) (take k (list_at w r)))) in
+              member_more (name_id w at) ∙ rw (eq-eqb (name_id w at) (id_at w r k) found.id_is) (or-true (member (name_id w at) (take k (list_at w r)))) in
               let c : rows_holding w r at + cond (member (name_id w at) (take (k + 1) (list_at w r))) 1 0 ≡ rows_holding w r at + 1 =
               ap (λ (b : Bool). rows_holding w r at + cond b 1 0) m in
               omega arith
 
           other : (i : ℕ) → i < name_count w → (i ≡ at → ⊥) → get_or (set tally at (get_or tally at 0 + 1)) i 0 ≡ rows_holding w r i + cond (member (name_id w i) (take (k + 1) (list_at w r))) 1 0
           other i l n =
-              let apart : name_id w i ≡ id_at w r k → ⊥ = λ e. n (rises_apart (name_count w) (name_id w) ids i at l name (e ∙ sym at_name.1)) in
+              let apart : name_id w i ≡ id_at w r k → ⊥ = λ e. n (rises_apart (name_count w) (name_id w) ids i at l found.within (e ∙ sym found.id_is)) in
               let m : member (name_id w i) (take (k + 1) (list_at w r)) ≡ member (name_id w i) (take k (list_at w r)) =
               member_more (name_id w i) ∙ rw (ne_eqb (name_id w i) (id_at w r k) apart) (or-false (member (name_id w i) (take k (list_at w r)))) in
               get_or-set_other tally at i (get_or tally at 0 + 1) 0 n
@@ -210,12 +196,30 @@ module _ (w : List ℕ) (good : Checked w) (r : ℕ) (row : r < row_count w) whe
             ∙ sym (sum_below_step (λ (s : ℕ). cond (member (name_id w i) (list_at w s)) 1 0) r),
       )
 
-  -- the k-th posting of the row lies within the slice
-  pub id_in_lem : (k first : ℕ) → first ≡ list_start w r → k < row_length w r → first + k < length w
-  id_in_lem k first e l =
-      let within = (head_facts w good.named.head).within in
-      let list = list_within w (rows_facts w good.rows) r row in
-      omega arith
+  -- ---- the part of the words that the code looks at is the row's list
+
+  module _ (s p n : ℕ) (start : s ≡ postings_start w) (place : p ≡ row_place w r) (count : n ≡ row_length w r) where
+    pub part_within : s + p + n ≤ length w
+    part_within =
+        let within = (head_facts w good.named.head).within in
+        let list = list_within w (rows_facts w good.rows) r row in
+        omega arith
+
+    part_list : take (s + p + n - (s + p)) (drop (s + p) w) ≡ list_at w r
+    unfolding list_at
+    part_list =
+        let k : s + p + n - (s + p) ≡ row_length w r = omega arith in
+        rw (k, start, place)
+
+    pub part_long : length (take (s + p + n - (s + p)) (drop (s + p) w)) ≡ row_length w r
+    part_long = ap length part_list ∙ list_long
+
+    -- its k-th word is the row's k-th id
+    pub part_id : (k : ℕ) → k < length (take (s + p + n - (s + p)) (drop (s + p) w))
+        → (k < row_length w r) × (get_or (take (s + p + n - (s + p)) (drop (s + p) w)) k 0 ≡ id_at w r k)
+    part_id k l =
+        let h : k < row_length w r = omega (arith, part_long) in
+        (h, ap (λ (x : List ℕ). get_or x k 0) part_list ∙ list_get_d w r k h)
 
 -- ---- the whole
 
@@ -236,22 +240,3 @@ lists_last w tally e t =
     rw e
     (all_ext (name_count w) (λ (i : ℕ). eqb (get_or tally i 0) (name_size w i)) (λ (i : ℕ). eqb (rows_holding w (row_count w) i) (name_size w i))
     (λ i l. ap (λ (n : ℕ). eqb n (name_size w i)) (t i l)))
-
--- ---- good, part by part
-
-module _ (w : List ℕ) where
-  pub good_head_bad : head_good w ≡ false → good_of w ≡ false
-  unfolding good_of
-  good_head_bad e = rw e
-
-  pub good_names_bad : head_good w ≡ true → names_good w ≡ false → good_of w ≡ false
-  unfolding good_of
-  good_names_bad a e = rw (a, e)
-
-  pub good_rows_bad : head_good w ≡ true → names_good w ≡ true → rows_good w ≡ false → good_of w ≡ false
-  unfolding good_of
-  good_rows_bad a b e = rw (a, b, e)
-
-  pub good_last : Checked w → lists_good w ≡ good_of w
-  unfolding good_of
-  good_last c = rw (c.named.head, c.named.names, c.rows)

@@ -6,7 +6,7 @@ ghost use Rattle.laws.specs.Below.{all_below};
 ghost use Rattle.words.specs.Words.{name_count, row_count, name_width, name_start, name_size};
 ghost use Rattle.binary_search.specs.Seats.{seat_of};
 ghost use Rattle.index.specs.Good.{ids_in, head_good, name_good, names_good, rows_good, list_good, lists_good, good_of};
-ghost use Rattle.index.specs.Check.{Named, Checked, Tallied, name_for, guess_room};
+ghost use Rattle.index.specs.Check.{Named, Checked, Tallied, NameAt, NameFor, guess_room};
 
 use binary_search::Seat;
 
@@ -24,32 +24,18 @@ pub const LARGEST_SIZE: u32 = names::FeatureSet::CAPACITY as u32;
 fn head_good(words: &[u32]) -> bool
     ensures { result ≡ head_good words.now }
 {
-    let n = words.len();
-    if n < words::HEAD_WIDTH {
-        return false;
-    }
-    if MOST_NAMES < words::name_count(words) {
-        return false;
-    }
-    let postings = words::posting_count(words);
-    if MOST_POSTINGS < postings {
-        return false;
-    }
-    words::postings_start(words) + postings <= n
+    words::HEAD_WIDTH <= words.len()
+        && words::name_count(words) <= MOST_NAMES
+        && words::posting_count(words) <= MOST_POSTINGS
+        && words::postings_start(words) + words::posting_count(words) <= words.len()
 }
 
 fn name_good(words: &[u32], i: usize) -> bool
     requires { name_start i + name_width ≤ length words.now }
     ensures { result ≡ name_good words.now i }
 {
-    if LARGEST_ID < words::name_id(words, i) {
-        return false;
-    }
-    let size = words::name_size(words, i);
-    if size < LEAST_SIZE {
-        return false;
-    }
-    size <= LARGEST_SIZE
+    words::name_id(words, i) <= LARGEST_ID
+        && (LEAST_SIZE..=LARGEST_SIZE).contains(&words::name_size(words, i))
 }
 
 fn names_good(words: &[u32]) -> bool
@@ -57,19 +43,8 @@ fn names_good(words: &[u32]) -> bool
     ensures { result ≡ names_good words.now }
 {
     let names = words::name_count(words);
-    let mut i: usize = 0;
-    while i < names {
-        if !name_good(words, i) {
-            return false;
-        }
-        if 0 < i {
-            if words::name_id(words, i) <= words::name_id(words, i - 1) {
-                return false;
-            }
-        }
-        i += 1;
-    }
-    true
+    (0..names).all(|i| name_good(words, i))
+        && (1..names).all(|i| words::name_id(words, i - 1) < words::name_id(words, i))
 }
 
 fn rows_good(words: &[u32]) -> bool
@@ -77,9 +52,8 @@ fn rows_good(words: &[u32]) -> bool
     ensures { result ≡ rows_good words.now }
 {
     let rows = words::row_count(words);
-    let mut due: usize = 0;
-    let mut r: usize = 0;
-    while r < rows {
+    let mut due = 0;
+    for r in 0..rows {
         let count = words::row_length(words, r);
         if count < 1 {
             return false;
@@ -87,13 +61,10 @@ fn rows_good(words: &[u32]) -> bool
         if words::row_place(words, r) != due {
             return false;
         }
-        if 0 < r {
-            if words::row_key(words, r) <= words::row_key(words, r - 1) {
-                return false;
-            }
+        if 0 < r && words::row_key(words, r) <= words::row_key(words, r - 1) {
+            return false;
         }
         due += count;
-        r += 1;
     }
     due == words::posting_count(words)
 }
@@ -107,7 +78,7 @@ pub fn name_seat(words: &[u32], id: u32) -> Seat
     if LARGEST_ID < id {
         return Seat::Before(names);
     }
-    let first = words::SIZE_ROOM as u64 * id as u64;
+    let first = u64::from(words::SIZE_ROOM) * u64::from(id);
     let at = binary_search::place_in_column(
         words,
         words::NAMES_START,
@@ -115,28 +86,22 @@ pub fn name_seat(words: &[u32], id: u32) -> Seat
         names,
         first,
     );
-    if at < names {
-        if words::name_id(words, at) == id {
-            return Seat::At(at);
-        }
+    if at < names && words::name_id(words, at) == id {
+        Seat::At(at)
+    } else {
+        Seat::Before(at)
     }
-    Seat::Before(at)
 }
 
-// The place of the name of that id and that size; N where there is none.
-fn name_for(words: &[u32], size: u32, id: u32) -> usize
+// The place of the name of that id and that size, if there is one.
+fn name_for(words: &[u32], size: u32, id: u32) -> Option<usize>
     requires { Named words.now }
-    ensures { result ≡ name_for words.now size id }
+    ensures { NameFor words.now size id result }
 {
-    let names = words::name_count(words);
-    let seat = name_seat(words, id);
-    let Seat::At(at) = seat else {
-        return names;
-    };
-    if words::name_size(words, at) == size {
-        return at;
+    match name_seat(words, id) {
+        Seat::At(at) if words::name_size(words, at) == size => Some(at),
+        _ => None,
     }
-    names
 }
 
 // How many guesses there are of each of two kinds: by the last twelve bits of an id, and behind them by the first twelve of its sixteen.
@@ -146,43 +111,35 @@ const GUESSES: usize = 4096;
 fn guess_names(words: &[u32], guesses: &mut [u8])
     requires { Named words.now × (guess_room ≤ length guesses.old) }
 {
-    let names = words::name_count(words);
-    let mut i: usize = 0;
-    while i < names {
+    for i in 0..words::name_count(words) {
         let id = words::name_id(words, i) as usize;
         guesses[id % GUESSES] = i as u8;
         guesses[GUESSES + id / 16 % GUESSES] = i as u8;
-        i += 1;
     }
 }
 
-// Whether the guessed name, if there is one, is the one that name_for finds.
+// Whether the guess is the place of the name of that id and that size.
 fn is_name(words: &[u32], guess: usize, size: u32, id: u32) -> bool
     requires { Named words.now }
-    ensures { result ≡ true → guess ≡ name_for words.now size id }
+    ensures { result ≡ true → NameAt words.now size id guess }
 {
-    if guess < words::name_count(words) {
-        if words::name_id(words, guess) == id {
-            if words::name_size(words, guess) == size {
-                return true;
-            }
-        }
-    }
-    false
+    guess < words::name_count(words)
+        && words::name_id(words, guess) == id
+        && words::name_size(words, guess) == size
 }
 
 // As name_for, whatever the guesses are: a guess that is the name saves the search.
-fn name_near(words: &[u32], guesses: &[u8], size: u32, id: u32) -> usize
+fn name_near(words: &[u32], guesses: &[u8], size: u32, id: u32) -> Option<usize>
     requires { Named words.now × (guess_room ≤ length guesses.now) }
-    ensures { result ≡ name_for words.now size id }
+    ensures { NameFor words.now size id result }
 {
-    let last = guesses[id as usize % GUESSES] as usize;
+    let last = usize::from(guesses[id as usize % GUESSES]);
     if is_name(words, last, size, id) {
-        return last;
+        return Some(last);
     }
-    let first = guesses[GUESSES + id as usize / 16 % GUESSES] as usize;
+    let first = usize::from(guesses[GUESSES + id as usize / 16 % GUESSES]);
     if is_name(words, first, size, id) {
-        return first;
+        return Some(first);
     }
     name_for(words, size, id)
 }
@@ -193,24 +150,19 @@ fn list_good(words: &[u32], guesses: &[u8], r: usize, tally: &mut [u32]) -> bool
     ensures value { result ≡ list_good words.now r }
     ensures tallied { result ≡ true → Tallied words.now (r + 1) tally.new }
 {
-    let names = words::name_count(words);
     let first = words::postings_start(words) + words::row_place(words, r);
-    let count = words::row_length(words, r);
+    let list = &words[first..first + words::row_length(words, r)];
     let size = words::row_size(words, r);
-    let mut next: usize = 0;
-    let mut k: usize = 0;
-    while k < count {
-        let id = words[first + k];
-        if (id as usize) < next {
+    let mut next = 0;
+    for &id in list {
+        if u64::from(id) < next {
             return false;
         }
-        let at = name_near(words, guesses, size, id);
-        if names <= at {
+        let Some(at) = name_near(words, guesses, size, id) else {
             return false;
-        }
+        };
         tally[at] += 1;
-        next = id as usize + 1;
-        k += 1;
+        next = u64::from(id) + 1;
     }
     true
 }
@@ -221,13 +173,10 @@ fn rows_tallied(words: &[u32], guesses: &[u8], tally: &mut [u32]) -> bool
     ensures value { result ≡ all_below (row_count words.now) (list_good words.now) }
     ensures tallied { result ≡ true → Tallied words.now (row_count words.now) tally.new }
 {
-    let rows = words::row_count(words);
-    let mut row: usize = 0;
-    while row < rows {
+    for row in 0..words::row_count(words) {
         if !list_good(words, guesses, row, tally) {
             return false;
         }
-        row += 1;
     }
     true
 }
@@ -237,42 +186,22 @@ fn tally_good(words: &[u32], tally: &[u32]) -> bool
     requires { (head_good words.now ≡ true) × (name_count words.now ≤ length tally.now) }
     ensures { result ≡ all_below (name_count words.now) (λ (i : ℕ). eqb (get_or tally.now i 0) (name_size words.now i)) }
 {
-    let names = words::name_count(words);
-    let mut at: usize = 0;
-    while at < names {
-        if tally[at] != words::name_size(words, at) {
-            return false;
-        }
-        at += 1;
-    }
-    true
+    (0..words::name_count(words)).all(|at| tally[at] == words::name_size(words, at))
 }
 
 fn lists_good(words: &[u32]) -> bool
     requires { Checked words.now }
     ensures { result ≡ lists_good words.now }
 {
-    let mut guesses = [0u8; 2 * GUESSES];
+    let mut guesses = [0; 2 * GUESSES];
     guess_names(words, &mut guesses);
-    let mut tally = [0u32; MOST_NAMES];
-    if !rows_tallied(words, &guesses, &mut tally) {
-        return false;
-    }
-    tally_good(words, &tally)
+    let mut tally = [0; MOST_NAMES];
+    rows_tallied(words, &guesses, &mut tally) && tally_good(words, &tally)
 }
 
 // Whether the words are a good index, whatever they are.
 pub fn good(words: &[u32]) -> bool
     ensures { result ≡ good_of words.now }
 {
-    if !head_good(words) {
-        return false;
-    }
-    if !names_good(words) {
-        return false;
-    }
-    if !rows_good(words) {
-        return false;
-    }
-    lists_good(words)
+    head_good(words) && names_good(words) && rows_good(words) && lists_good(words)
 }

@@ -14,13 +14,17 @@ ghost use Rattle.std.specs.Prelude.{◌≡◌, length};
 
 use std::io;
 
-// What was read of a line: how many words are stored, the number being read, and whether it has a digit yet.
+// What was read of a line: how many words are stored, and the number being read, once it has a digit.
 #[derive(Clone, Copy)]
 struct Line {
     count: usize,
-    value: u32,
-    open: bool,
+    number: Option<u32>,
 }
+
+const NO_LINE: Line = Line {
+    count: 0,
+    number: None,
+};
 
 // Room for the words of a line.
 fn room() -> [u32; 131072]
@@ -31,66 +35,58 @@ fn room() -> [u32; 131072]
 
 // The line with one more digit.
 fn digit(line: Line, d: u8) -> Line {
-    let value = (line.value as u64 * 10 + d as u64) % 4294967296;
+    let number = line
+        .number
+        .unwrap_or(0)
+        .wrapping_mul(10)
+        .wrapping_add(u32::from(d));
     Line {
         count: line.count,
-        value: value as u32,
-        open: true,
+        number: Some(number),
     }
 }
 
 // The line with its open number stored among the words.
 fn closed(words: &mut [u32], line: Line) -> Line {
-    let at = line.count;
-    if line.open {
-        if at < words.len() {
-            words[at] = line.value;
-            return Line {
-                count: at + 1,
-                value: 0,
-                open: false,
-            };
+    let mut count = line.count;
+    if let Some(number) = line.number {
+        if count < words.len() {
+            words[count] = number;
+            count += 1;
         }
     }
     Line {
-        count: at,
-        value: 0,
-        open: false,
+        count,
+        number: None,
     }
 }
 
 // Writes the verdict of the words of a line.
 fn verdict<P: Print>(rt: &P, words: &[u32], count: usize) -> io::Result<()> {
     if count <= words.len() {
-        println!(rt; "{}", index::good(&words[0..count]) as u64)?;
+        println!(rt; "{}", u64::from(index::good(&words[..count])))?;
     }
     Ok(())
 }
 
 // One byte of the input.
 fn step<P: Print>(rt: &P, words: &mut [u32], line: Line, b: u8) -> io::Result<Line> {
-    if 48 <= b && b <= 57 {
-        return Ok(digit(line, b - 48));
+    match b {
+        b'0'..=b'9' => Ok(digit(line, b - b'0')),
+        b'\n' => {
+            let done = closed(words, line);
+            verdict(rt, words, done.count)?;
+            Ok(NO_LINE)
+        }
+        _ => Ok(closed(words, line)),
     }
-    let done = closed(words, line);
-    if b == 10 {
-        verdict(rt, words, done.count)?;
-        return Ok(Line {
-            count: 0,
-            value: 0,
-            open: false,
-        });
-    }
-    Ok(done)
 }
 
 // The bytes of a chunk.
 fn chunk<P: Print>(rt: &P, words: &mut [u32], first: Line, bytes: &[u8]) -> io::Result<Line> {
     let mut line = first;
-    let mut i: usize = 0;
-    while i < bytes.len() {
-        line = step(rt, words, line, bytes[i])?;
-        i += 1;
+    for b in bytes {
+        line = step(rt, words, line, *b)?;
     }
     Ok(line)
 }
@@ -98,23 +94,13 @@ fn chunk<P: Print>(rt: &P, words: &mut [u32], first: Line, bytes: &[u8]) -> io::
 fn main(rt: HostRuntime) -> io::Result<()> {
     let mut words = room();
     let mut bytes = [0u8; 65536];
-    let mut line = Line {
-        count: 0,
-        value: 0,
-        open: false,
-    };
-    let mut left: u64 = 1000000000;
-    while 0 < left {
-        let input = streams::read_input(&mut rt.stdin(), &mut bytes);
-        if let Some(error) = input.failure {
-            return Err(error);
-        }
-        let got = input.len;
-        line = chunk(&rt, &mut words, line, &bytes[0..got])?;
-        if got < 65536 {
+    let mut line = NO_LINE;
+    for _ in 0..1000000000u64 {
+        let got = streams::read_input(&mut rt.stdin(), &mut bytes)?;
+        line = chunk(&rt, &mut words, line, &bytes[..got])?;
+        if got < bytes.len() {
             break;
         }
-        left -= 1;
     }
     Ok(())
 }

@@ -1,10 +1,11 @@
--- A table written over the whole of a list, and four words one after the other. Assumes nothing.
-use mathlib.Core.Path.{◌≡◌, sym, ap, ◌∙◌}
-use mathlib.Core.List.{List, [], ◌∷◌, ◌++◌, append-nil}
-use Prim.Native.Nat.{ℕ, suc, ◌+◌, ◌<◌}
-use native.Mathlib.Omega.{arith}
-use lib.ListN.{length, get_or, set}
-use lib.Seq.{drop-length, sets}
+-- A table written over the whole of a list, and a part of a list put back. Assumes nothing.
+use mathlib.Core.Path.{◌≡◌, sym, ap, ap₂, ◌∙◌}
+use mathlib.Core.List.{List, ◌++◌, append-nil, append_assoc}
+use Prim.Native.Nat.{ℕ, ◌+◌, ◌<◌, ◌≤◌}
+use borrow.Rule.Slice.PartMut.{put_mid}
+use lib.ListN.{length, get_or, take, drop}
+use lib.Seq.{drop-length, drop-drop}
+use Rattle.std.proofs.lemmas.List.Edits.{sets, sets-eq}
 use Rattle.laws.specs.Lists.{tabulate}
 use Rattle.laws.proofs.Images.{tabulate_of}
 use Rattle.laws.proofs.Tables.{table_over}
@@ -15,10 +16,8 @@ over_all f l r d e same =
     ∙ append-nil (tabulate f (length l))
     ∙ sym (tabulate_of f (length l) d r e same)
 
--- four stores one after the other
-pub four_sets : (l : List ℕ) (at a b c d : ℕ) → set (set (set (set l at a) (at + 1) b) (at + 2) c) (at + 3) d ≡ sets l at (a ∷ b ∷ c ∷ d ∷ [])
-four_sets l at a b c d =
-    let p : at + 1 ≡ suc at = omega arith in
-    let q : at + 2 ≡ suc (suc at) = omega arith in
-    let r : at + 3 ≡ suc (suc (suc at)) = omega arith in
-    λ i. set (set (set (set l at a) (p i) b) (q i) c) (r i) d
+-- a part is put back that holds these: they are stored one after the other
+pub mid_sets : (l : List ℕ) (at k : ℕ) (ys vs : List ℕ) → ys ≡ vs → k ≡ length vs → at + length vs ≤ length l → put_mid at k l ys ≡ sets l at vs
+mid_sets l at k ys vs e f h =
+    ap₂ (λ (zs t : List ℕ). take at l ++ (zs ++ t)) e (drop-drop k at l ∙ ap (λ (n : ℕ). drop (at + n) l) f)
+    ∙ sym (sets-eq vs l at h ∙ append_assoc (take at l) vs (drop (at + length vs) l))

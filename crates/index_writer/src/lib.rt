@@ -29,7 +29,7 @@ fn run_key(names: &[u32], key: u64) -> u64
     requires { key % place_span < length names.now }
     ensures { result ≡ run_key names.now key }
 {
-    key / PLACE_SPAN * PLACE_SPAN + (word_at(names, key) % words::SIZE_ROOM) as u64
+    key / PLACE_SPAN * PLACE_SPAN + u64::from(word_at(names, key) % words::SIZE_ROOM)
 }
 
 // Whether the posting at place i begins a row.
@@ -37,10 +37,7 @@ fn begins_row(names: &[u32], keys: &[u64], i: usize) -> bool
     requires { (i < length keys.now) × Keyed names.now keys.now }
     ensures { result ≡ begins_row (triples_at names.now keys.now) i }
 {
-    if i == 0 {
-        return true;
-    }
-    run_key(names, keys[i - 1]) != run_key(names, keys[i])
+    i == 0 || run_key(names, keys[i - 1]) != run_key(names, keys[i])
 }
 
 // ---- the rows
@@ -51,13 +48,10 @@ fn new_row(size: u32, feature: u32, place: u32, out: &mut [u32], d: usize)
     ensures { out.new ≡ new_row size feature place out.old d }
 {
     let at = words::ROW_WIDTH * d;
-    if out.len() < at + words::ROW_WIDTH {
-        return;
+    let end = at + words::ROW_WIDTH;
+    if end <= out.len() {
+        out[at..end].copy_from_slice(&[size, feature, place, 1]);
     }
-    out[at] = size;
-    out[at + words::FEATURE_COLUMN] = feature;
-    out[at + words::PLACE_COLUMN] = place;
-    out[at + words::LENGTH_COLUMN] = 1;
 }
 
 // Adds one to the count of the last of d rows, where there was room for it.
@@ -66,11 +60,9 @@ fn grow_row(out: &mut [u32], d: usize)
     ensures { out.new ≡ grown_row out.old d }
 {
     let end = words::ROW_WIDTH * d;
-    if out.len() < end {
-        return;
+    if end <= out.len() {
+        out[end - 1] += 1;
     }
-    let last = end - 1;
-    out[last] = out[last] + 1;
 }
 
 // Puts the posting at place i into the rows, of which d are there: a new row where one begins, and otherwise one id more in the last row.
@@ -99,10 +91,8 @@ fn put_rows(names: &[u32], keys: &[u64], out: &mut [u32]) -> usize
     ensures { RowsAt (triples_at names.now keys.now) (length keys.now) result out.new }
 {
     let mut d = 0;
-    let mut i = 0;
-    while i < keys.len() {
+    for i in 0..keys.len() {
         d = put_row(names, keys, i, out, d);
-        i += 1;
     }
     d
 }
@@ -113,23 +103,7 @@ fn put_rows(names: &[u32], keys: &[u64], out: &mut [u32]) -> usize
 pub fn fill(words: &mut [u32])
     ensures { words.new ≡ replicate (length words.old) blank }
 {
-    let mut i: usize = 0;
-    while i < words.len() {
-        words[i] = 4294967295;
-        i += 1;
-    }
-}
-
-// Copies the name words.
-fn put_names(names: &[u32], out: &mut [u32])
-    requires { length out.old ≡ length names.now }
-    ensures { out.new ≡ names.now }
-{
-    let mut i = 0;
-    while i < names.len() {
-        out[i] = names[i];
-        i += 1;
-    }
+    words.fill(u32::MAX);
 }
 
 // Puts the ids of the postings, in order.
@@ -137,10 +111,8 @@ fn put_lists(names: &[u32], keys: &[u64], out: &mut [u32])
     requires { (length out.old ≡ length keys.now) × Keyed names.now keys.now }
     ensures { out.new ≡ map (id_at names.now) keys.now }
 {
-    let mut i = 0;
-    while i < keys.len() {
-        out[i] = word_at(names, keys[i]) / words::SIZE_ROOM;
-        i += 1;
+    for (i, key) in keys.iter().enumerate() {
+        out[i] = word_at(names, *key) / words::SIZE_ROOM;
     }
 }
 
@@ -169,7 +141,7 @@ fn put_head(names: &[u32], d: usize, p: usize, words: &mut [u32])
 {
     let n = names.len();
     let end = words::HEAD_WIDTH + n;
-    put_names(names, &mut words[words::HEAD_WIDTH..end]);
+    words[words::HEAD_WIDTH..end].copy_from_slice(names);
     words[words::NAME_COUNT_AT] = n as u32;
     words[words::ROW_COUNT_AT] = d as u32;
     words[words::POSTING_COUNT_AT] = p as u32;

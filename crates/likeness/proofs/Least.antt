@@ -10,6 +10,7 @@ use native.Mathlib.Omega.{arith}
 use mathlib.Core.Logic.{⊎_elim}
 use lib.Dec.{leb}
 use borrow.Author.Tests.{le-leb, lt-leb, leb-true}
+use Rattle.std.proofs.Common.{Option, None, Some, MatchOption, unwrap_or}
 use Rattle.laws.specs.First.{first_from}
 use Rattle.laws.proofs.First.{first_nil, first_within, first_least, first_passes}
 use Rattle.laws.proofs.Tests.{same_test, test_failed}
@@ -63,11 +64,29 @@ module _ (m p q x y : ℕ) (known : good_measure m ≡ true) (good : good_thresh
       by_order (yes n) = absurd (test_failed _ f (rw (le_antisymm l n) least_similar))
       by_order (no g) = lt_of_not-le g
 
+  -- a count from 1 that is similar, and nothing before it is, is the least count
+  pub least_is : (c : ℕ) → 1 ≤ c → is_similar m p q x y c ≡ true → ((k : ℕ) → 1 ≤ k → k < c → is_similar m p q x y k ≡ false)
+      → c ≡ least_count m p q x y
+  least_is c l e f = by_order (dec_le c (least_count m p q x y))
+    where
+      by_order : Dec (c ≤ least_count m p q x y) → c ≡ least_count m p q x y
+      by_order (yes n) = le_antisymm n (least_le c l e)
+      by_order (no g) = absurd (test_failed _ (f _ least_pos (lt_of_not-le g)) least_similar)
+
   -- it is at most the larger size, which is always similar; 1 where both sizes are 0
   pub least_most : least_count m p q x y ≤ max 1 (max x y)
   least_most =
       least_le (max 1 (max x y)) (omega arith)
       (similar_mono m p q x y (max x y) (max 1 (max x y)) (omega arith) (similar_whole m p q x y known good))
+
+  -- so it is what a search below the larger size, or below 1, finds, and that size where it finds none
+  pub least_found : (most : ℕ) (r : Option ℕ) → most ≡ max (max x y) 1
+      → MatchOption r ((k : ℕ) → 1 ≤ k → k < most → is_similar m p q x y k ≡ false)
+      (λ c. (1 ≤ c) × (c < most) × (is_similar m p q x y c ≡ true) × ((k : ℕ) → 1 ≤ k → k < c → is_similar m p q x y k ≡ false))
+      → unwrap_or r most ≡ least_count m p q x y
+  least_found most None e h =
+      least_is most (omega arith) (similar_mono m p q x y (max x y) most (omega arith) (similar_whole m p q x y known good)) h
+  least_found most (Some c) e h = least_is c h.0 h.2 h.3
 
   -- a shared count of at least 1 is similar exactly if the least count is at most it
   pub least_decides : (c : ℕ) → 1 ≤ c → is_similar m p q x y c ≡ leb (least_count m p q x y) c

@@ -3,4 +3,3 @@ pub mod Measures
 pub mod Sizes
 pub mod Least
 pub mod Terms
-pub mod Fits

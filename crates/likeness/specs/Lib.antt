@@ -1,4 +1,5 @@
 pub mod Measures
+pub mod Named
 pub mod Sizes
 pub mod Least
 pub mod Fractions

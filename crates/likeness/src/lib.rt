@@ -2,8 +2,9 @@
 // least count of shared features, and a threshold in lowest terms. What is right stands in specs/. Nothing here knows a name or a feature.
 #![tactic(auto)]
 
-ghost use Rattle.std.specs.Prelude.{◌≡◌, ◌-◌, ◌<◌, ◌^◌, min, max};
-ghost use Rattle.likeness.specs.Measures.{good_measure, good_threshold, measure_of, reaches, is_similar};
+ghost use Rattle.std.specs.Prelude.{◌≡◌, ◌<◌, ◌^◌};
+ghost use Rattle.likeness.specs.Measures.{good_measure, good_threshold, reaches, is_similar};
+ghost use Rattle.likeness.specs.Named.{meant, NameOf};
 ghost use Rattle.likeness.specs.Sizes.{beside, is_searched};
 ghost use Rattle.likeness.specs.Least.{least_count};
 ghost use Rattle.likeness.specs.Terms.{divisor_of, lowest_terms};
@@ -15,56 +16,61 @@ pub struct Threshold {
     pub q: u16,
 }
 
+// The four measures.
+#[derive(Clone, Copy)]
+enum Measure {
+    Dice,
+    Jaccard,
+    Cosine,
+    Overlap,
+}
+
+// A measure's number is from 1 to 4; the error is a number that names none.
+impl TryFrom<u8> for Measure {
+    type Error = u8;
+
+    ghost try_from_gives = { NameOf };
+
+    fn try_from(number: u8) -> Result<Measure, u8> {
+        match number {
+            1 => Ok(Measure::Dice),
+            2 => Ok(Measure::Jaccard),
+            3 => Ok(Measure::Cosine),
+            4 => Ok(Measure::Overlap),
+            _ => Err(number),
+        }
+    }
+}
+
 // A measure is a number from 1 to 4.
 pub fn good_measure(measure: u8) -> bool
     ensures { result ≡ good_measure measure }
 {
-    1 <= measure && measure <= 4
+    (1..=4).contains(&measure)
 }
 
 // A threshold has 1 ≤ p ≤ q ≤ 1000.
 pub fn good_threshold(p: u16, q: u16) -> bool
     ensures { result ≡ good_threshold p q }
 {
-    if p < 1 {
-        return false;
-    }
-    if q < p {
-        return false;
-    }
-    q <= 1000
-}
-
-// a - b, or 0 where b is more.
-fn minus(a: u64, b: u64) -> u64
-    ensures { result ≡ a - b }
-{
-    if a < b { 0 } else { a - b }
-}
-
-// The smaller of the two.
-fn smaller(a: u64, b: u64) -> u64
-    ensures { result ≡ min a b }
-{
-    if a < b { a } else { b }
+    1 <= p && p <= q && q <= 1000
 }
 
 // The rule's inequality for each measure, at any p and q.
-fn reaches_threshold(measure: u8, p: u16, q: u16, x: u8, y: u8, c: u8) -> bool
-    ensures { result ≡ reaches (measure_of measure) p q x y c }
+fn reaches_threshold(measure: Measure, p: u16, q: u16, x: u8, y: u8, c: u8) -> bool
+    ensures { result ≡ reaches (meant measure) p q x y c }
 {
-    let p = p as u64;
-    let q = q as u64;
-    let x = x as u64;
-    let y = y as u64;
-    let c = c as u64;
+    let p = u64::from(p);
+    let q = u64::from(q);
+    let x = u64::from(x);
+    let y = u64::from(y);
+    let c = u64::from(c);
     match measure {
-        1 => 2 * c * q >= p * (x + y),
-        2 => c * q >= p * minus(x + y, c),
+        Measure::Dice => 2 * c * q >= p * (x + y),
+        Measure::Jaccard => c * q >= p * (x + y).saturating_sub(c),
         // c²q² ≥ p²xy, as the leaflet has it
-        3 => c * c * q * q >= p * p * x * y,
-        4 => c * q >= p * smaller(x, y),
-        _ => false,
+        Measure::Cosine => c * c * q * q >= p * p * x * y,
+        Measure::Overlap => c * q >= p * x.min(y),
     }
 }
 
@@ -73,23 +79,25 @@ fn reaches_threshold(measure: u8, p: u16, q: u16, x: u8, y: u8, c: u8) -> bool
 pub fn least_count(measure: u8, p: u16, q: u16, x: u8, y: u8) -> u8
     ensures { result ≡ least_count measure p q x y }
 {
-    if !good_measure(measure) {
+    let Ok(measure) = Measure::try_from(measure) else {
         return 0;
-    }
+    };
     if !good_threshold(p, q) {
         return 0;
     }
-    let mut c: u8 = 1;
-    while !reaches_threshold(measure, p, q, x, y, c) {
-        c += 1;
-    }
-    c
+    let most = x.max(y).max(1);
+    (1..most)
+        .find(|c| reaches_threshold(measure, p, q, x, y, *c))
+        .unwrap_or(most)
 }
 
 // Whether two names of x and y features, with so many shared, are similar; never where the measure or the threshold is bad.
 pub fn similar(measure: u8, p: u16, q: u16, x: u8, y: u8, shared: u8) -> bool
     ensures { result ≡ is_similar measure p q x y shared }
 {
+    let Ok(measure) = Measure::try_from(measure) else {
+        return false;
+    };
     good_threshold(p, q) && reaches_threshold(measure, p, q, x, y, shared)
 }
 
@@ -98,8 +106,8 @@ fn sizes_beside(low: u64, high: u64, x: u8, y: u8) -> bool
     requires { (low < 2 ^ 32) × (high < 2 ^ 32) }
     ensures { result ≡ beside low high x y }
 {
-    let x = x as u64;
-    let y = y as u64;
+    let x = u64::from(x);
+    let y = u64::from(y);
     low * x <= high * y && low * y <= high * x
 }
 
@@ -107,17 +115,19 @@ fn sizes_beside(low: u64, high: u64, x: u8, y: u8) -> bool
 pub fn searched(measure: u8, p: u16, q: u16, x: u8, y: u8) -> bool
     ensures { result ≡ is_searched measure p q x y }
 {
+    let Ok(measure) = Measure::try_from(measure) else {
+        return false;
+    };
     if !good_threshold(p, q) {
         return false;
     }
-    let p = p as u64;
-    let q = q as u64;
+    let p = u64::from(p);
+    let q = u64::from(q);
     match measure {
-        1 => sizes_beside(p, minus(2 * q, p), x, y),
-        2 => sizes_beside(p, q, x, y),
-        3 => sizes_beside(p * p, q * q, x, y),
-        4 => true,
-        _ => false,
+        Measure::Dice => sizes_beside(p, (2 * q).saturating_sub(p), x, y),
+        Measure::Jaccard => sizes_beside(p, q, x, y),
+        Measure::Cosine => sizes_beside(p * p, q * q, x, y),
+        Measure::Overlap => true,
     }
 }
 

@@ -8,12 +8,9 @@ ghost use Rattle.lines.specs.Lines.{line_length};
 pub fn line_end(bytes: &[u8], from: usize) -> usize
     ensures { result ≡ from + line_length (drop from bytes.now) }
 {
-    let mut i = from;
-    while i < bytes.len() {
-        if bytes[i] == 10 {
-            return i + 1;
-        }
-        i += 1;
-    }
-    i
+    let rest = bytes.get(from..).unwrap_or(&[]);
+    from + rest
+        .iter()
+        .position(|b| *b == b'\n')
+        .map_or(rest.len(), |i| i + 1)
 }

@@ -15,28 +15,21 @@ ghost use Rattle.lists.specs.Lists.{span_for};
 
 use std::io;
 
-// What was read of a case: how many of its first two numbers, the size, the feature, how many words are stored, the number being read, and whether
-// it has a digit yet.
+// What was read of a case: its first two numbers, the size and the feature, how many words are stored, and the number being read, once it has a digit.
 #[derive(Clone, Copy)]
 struct Case {
-    heads: usize,
-    size: u32,
-    feature: u64,
+    size: Option<u32>,
+    feature: Option<u64>,
     count: usize,
-    value: u64,
-    open: bool,
+    number: Option<u64>,
 }
 
-fn no_case() -> Case {
-    Case {
-        heads: 0,
-        size: 0,
-        feature: 0,
-        count: 0,
-        value: 0,
-        open: false,
-    }
-}
+const NO_CASE: Case = Case {
+    size: None,
+    feature: None,
+    count: 0,
+    number: None,
+};
 
 // Room for the words.
 fn room() -> [u32; 131072]
@@ -45,60 +38,34 @@ fn room() -> [u32; 131072]
     [0; 131072]
 }
 
-// The low 64 bits of a number with one more digit.
-fn longer(value: u64, d: u8) -> u64 {
-    let low = value % 4294967296 * 10 + d as u64;
-    let high = (value / 4294967296 * 10 + low / 4294967296) % 4294967296;
-    high * 4294967296 + low % 4294967296
-}
-
 // The case with one more digit.
 fn digit(case: Case, d: u8) -> Case {
     let mut next = case;
-    next.value = longer(case.value, d);
-    next.open = true;
+    next.number = Some(
+        case.number
+            .unwrap_or(0)
+            .wrapping_mul(10)
+            .wrapping_add(u64::from(d)),
+    );
     next
 }
 
 // The case with its open number in its place.
 fn closed(words: &mut [u32], case: Case) -> Case {
     let mut next = case;
-    if !case.open {
-        return next;
-    }
-    next.value = 0;
-    next.open = false;
-    let low = (case.value % 4294967296) as u32;
-    if case.heads == 0 {
-        next.heads = 1;
-        next.size = low;
-        return next;
-    }
-    if case.heads == 1 {
-        next.heads = 2;
-        next.feature = case.value;
-        return next;
-    }
-    let at = case.count;
-    if at < words.len() {
-        words[at] = low;
-        next.count = at + 1;
+    if let Some(number) = case.number {
+        next.number = None;
+        let low = (number % 4294967296) as u32;
+        if case.size.is_none() {
+            next.size = Some(low);
+        } else if case.feature.is_none() {
+            next.feature = Some(number);
+        } else if case.count < words.len() {
+            words[case.count] = low;
+            next.count = case.count + 1;
+        }
     }
     next
-}
-
-// A number, with a space before it.
-fn put<P: Print>(rt: &P, n: u64) -> io::Result<()> {
-    print!(rt; " {n}")
-}
-
-fn put_words<P: Print>(rt: &P, words: &[u32]) -> io::Result<()> {
-    let mut i = 0;
-    while i < words.len() {
-        put(rt, words[i] as u64)?;
-        i += 1;
-    }
-    Ok(())
 }
 
 // Where the list starts among the words; 0 where there is none.
@@ -115,9 +82,10 @@ fn start_of(words: &[u32], size: u32, feature: u64) -> usize
 // Finds the list, and writes the answer.
 fn answer<P: Print>(rt: &P, words: &[u32], size: u32, feature: u64) -> io::Result<()> {
     let list = lists::list_for(words, size, feature);
-    print!(rt; "{}", start_of(words, size, feature))?;
-    put(rt, list.len() as u64)?;
-    put_words(rt, list)?;
+    print!(rt; "{} {}", start_of(words, size, feature), list.len())?;
+    for word in list {
+        print!(rt; " {}", *word)?;
+    }
     println!(rt)
 }
 
@@ -125,31 +93,34 @@ fn answer<P: Print>(rt: &P, words: &[u32], size: u32, feature: u64) -> io::Resul
 fn ended<P: Print>(rt: &P, words: &[u32], case: Case) -> io::Result<()> {
     let count = case.count;
     if count <= words.len() {
-        answer(rt, &words[0..count], case.size, case.feature)?;
+        answer(
+            rt,
+            &words[..count],
+            case.size.unwrap_or(0),
+            case.feature.unwrap_or(0),
+        )?;
     }
     Ok(())
 }
 
 // One byte of the input.
 fn step<P: Print>(rt: &P, words: &mut [u32], case: Case, b: u8) -> io::Result<Case> {
-    if 48 <= b && b <= 57 {
-        return Ok(digit(case, b - 48));
+    match b {
+        b'0'..=b'9' => Ok(digit(case, b - b'0')),
+        b'\n' => {
+            let done = closed(words, case);
+            ended(rt, words, done)?;
+            Ok(NO_CASE)
+        }
+        _ => Ok(closed(words, case)),
     }
-    let done = closed(words, case);
-    if b == 10 {
-        ended(rt, words, done)?;
-        return Ok(no_case());
-    }
-    Ok(done)
 }
 
 // The bytes of a chunk.
 fn chunk<P: Print>(rt: &P, words: &mut [u32], first: Case, bytes: &[u8]) -> io::Result<Case> {
     let mut case = first;
-    let mut i: usize = 0;
-    while i < bytes.len() {
-        case = step(rt, words, case, bytes[i])?;
-        i += 1;
+    for b in bytes {
+        case = step(rt, words, case, *b)?;
     }
     Ok(case)
 }
@@ -157,19 +128,13 @@ fn chunk<P: Print>(rt: &P, words: &mut [u32], first: Case, bytes: &[u8]) -> io::
 fn main(rt: HostRuntime) -> io::Result<()> {
     let mut words = room();
     let mut bytes = [0u8; 65536];
-    let mut case = no_case();
-    let mut left: u64 = 1000000000;
-    while 0 < left {
-        let input = streams::read_input(&mut rt.stdin(), &mut bytes);
-        if let Some(error) = input.failure {
-            return Err(error);
-        }
-        let got = input.len;
-        case = chunk(&rt, &mut words, case, &bytes[0..got])?;
-        if got < 65536 {
+    let mut case = NO_CASE;
+    for _ in 0..1000000000u64 {
+        let got = streams::read_input(&mut rt.stdin(), &mut bytes)?;
+        case = chunk(&rt, &mut words, case, &bytes[..got])?;
+        if got < bytes.len() {
             break;
         }
-        left -= 1;
     }
     Ok(())
 }

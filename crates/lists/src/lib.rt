@@ -29,8 +29,9 @@ fn reach(words: &[u32], size: u64, known: usize) -> usize
 {
     let rest = words::row_count(words) - known;
     let mut n = 0;
+    // a `while`, as the steps double and are no count
     while n < rest {
-        if size <= words::row_size(words, known + n) as u64 {
+        if size <= u64::from(words::row_size(words, known + n)) {
             return n;
         }
         n += n + 16;
@@ -63,8 +64,8 @@ pub fn rows_of_size(words: &[u32], size: u32) -> &[u32]
     requires { Good words.now }
     ensures { Part words.entry result (size_span words.now size) }
 {
-    let from = rows_under(words, size as u64, 0);
-    let to = rows_under(words, size as u64 + 1, from);
+    let from = rows_under(words, u64::from(size), 0);
+    let to = rows_under(words, u64::from(size) + 1, from);
     rows_between(words, size, from, to)
 }
 
@@ -73,7 +74,7 @@ fn place_if(rows: &[u32], row: usize, first: usize, feature: u64) -> Place
     requires { (row < part_rows rows.now) × (first < 2 ^ 63) }
     ensures { (result.start ≡ cond (eqb (part_feature rows.now row) feature) (first + part_place rows.now row) 0) × (result.count ≡ cond (eqb (part_feature rows.now row) feature) (part_length rows.now row) 0) }
 {
-    let hit = binary_search::one_if(words::part_feature(rows, row) == feature);
+    let hit = usize::from(words::part_feature(rows, row) == feature);
     let start = first + words::part_place(rows, row);
     let count = words::part_length(rows, row);
     Place {
@@ -99,7 +100,7 @@ pub fn place_among(words: &[u32], rows: &[u32], first: usize, size: u32, feature
         n,
         feature,
     );
-    let row = at - binary_search::one_if(at == n);
+    let row = at.min(n - 1);
     place_if(rows, row, first, feature)
 }
 

@@ -5,15 +5,14 @@ use mathlib.Core.Bool.{false}
 use mathlib.Core.List.{List, [], ◌∷◌}
 use Prim.Native.Nat.{ℕ}
 use lib.ListN.{take}
+use Rattle.std.proofs.Common.{Err}
+use Rattle.refusals.specs.declared.Refusal.TheVariants.{NoRoom}
+use Rattle.refusals.specs.Refusals.{refusal_number}
 use Rattle.laws.specs.Lists.{sum_of}
 use Rattle.hex_digits.specs.Lines.{digit_of, place_in, value_of, is_digit, hex_of, hex_line, well_formed, bytes_of}
 use Rattle.hex_digits.specs.Numbers.{number_of, bytes_for}
 use Rattle.fields.specs.Layouts.{head_size, field_bytes, name_bytes, line_of, tail_size, laid_out, is_frame, fields_of, fields_in, name_in, read_of}
-use Rattle.log_frames.specs.declared.OutcomeRead.TheVariants.{Outcome}
-use Rattle.log_frames.specs.declared.PairRead.TheVariants.{Pair}
-use Rattle.log_frames.specs.declared.ImportEndRead.TheVariants.{ImportEnd}
-use Rattle.log_frames.specs.declared.ImportRefusalRead.TheVariants.{ImportRefusal}
-use Rattle.log_frames.specs.Frames.{log_frame, outcome_frame, pair_frame, import_end_frame, import_refusal_frame, log_out, outcome_out, pair_out, import_end_out, import_refusal_out}
+use Rattle.log_frames.specs.Frames.{log_frame, outcome_frame, pair_frame, import_end_frame, import_refusal_frame, log_out, outcome_out, pair_out, import_end_out, import_refusal_out, a_log, an_outcome, a_pair, an_import_end, an_import_refusal}
 
 -- LANE
 abbrev lane : List ℕ
@@ -49,13 +48,13 @@ unfolding line_of hex_line hex_of digit_of field_bytes bytes_for name_bytes
 listing_written = (refl, refl, refl, refl, refl)
 
 -- and read; three bytes are no room for LANE, and a log line without its line feed is none
-pub listing_read : (read_of log_frame log_line 4 ≡ log_out (record { number = 0; day = 7; reading = 45; len = 4 }))
+pub listing_read : (read_of log_frame log_line 4 ≡ log_out (a_log 7 45 4))
     × (name_in log_frame log_line ≡ lane)
-    × (read_of log_frame log_line 3 ≡ log_out (record { number = 8; day = 0; reading = 0; len = 0 }))
+    × (read_of log_frame log_line 3 ≡ log_out (Err NoRoom))
     × (is_frame log_frame (take 20 log_line) ≡ false)
-    × (read_of outcome_frame outcome_line 0 ≡ outcome_out (Outcome 1 10))
-    × (read_of pair_frame pair_line 0 ≡ pair_out (Pair 10 1 135 3))
-    × (read_of import_end_frame end_line 0 ≡ import_end_out (ImportEnd 6 2))
-    × (read_of import_refusal_frame refusal_line 0 ≡ import_refusal_out (ImportRefusal 3 11 2))
+    × (read_of outcome_frame outcome_line 0 ≡ outcome_out (an_outcome 1 10))
+    × (read_of pair_frame pair_line 0 ≡ pair_out (a_pair 10 1 135 3))
+    × (read_of import_end_frame end_line 0 ≡ import_end_out (an_import_end 6 2))
+    × (read_of import_refusal_frame refusal_line 0 ≡ import_refusal_out (an_import_refusal 3 11 2))
 unfolding read_of is_frame well_formed is_digit value_of place_in laid_out bytes_of head_size sum_of tail_size name_in fields_in fields_of number_of
 listing_read = (refl, refl, refl, refl, refl, refl, refl, refl)

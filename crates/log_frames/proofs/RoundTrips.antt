@@ -12,19 +12,18 @@ use borrow.Author.Tests.{eq-eqb, eqb-true}
 use Rattle.laws.specs.Below.{all_below}
 use Rattle.laws.proofs.Below.{all_at}
 use Rattle.hex_digits.specs.Lines.{Bytes}
-use Rattle.fields.specs.declared.Reading.{Reading}
+use Rattle.fields.specs.Layouts.{Reading}
 use Rattle.fields.specs.Layouts.{Fitting, line_of, is_frame, name_in, read_of, buffer_of}
 use Rattle.fields.proofs.Laws.{fitting_named, fitting_plain, read_write, buffer_write, write_reading, kind_unique}
-use Rattle.log_frames.specs.declared.LogRead.{LogRead}
-use Rattle.log_frames.specs.declared.OutcomeRead.{OutcomeRead}
-use Rattle.log_frames.specs.declared.OutcomeRead.TheVariants.{Outcome, Malformed as NoOutcome}
-use Rattle.log_frames.specs.declared.PairRead.{PairRead}
-use Rattle.log_frames.specs.declared.PairRead.TheVariants.{Pair, Malformed as NoPair}
-use Rattle.log_frames.specs.declared.ImportEndRead.{ImportEndRead}
-use Rattle.log_frames.specs.declared.ImportEndRead.TheVariants.{ImportEnd, Malformed as NoEnd}
-use Rattle.log_frames.specs.declared.ImportRefusalRead.{ImportRefusalRead}
-use Rattle.log_frames.specs.declared.ImportRefusalRead.TheVariants.{ImportRefusal, Malformed as NoRefusal}
-use Rattle.log_frames.specs.Frames.{log_frame, outcome_frame, pair_frame, import_end_frame, import_refusal_frame, all_layouts, log_out, outcome_out, pair_out, import_end_out, import_refusal_out}
+use Rattle.std.proofs.Common.{Result, Ok, Err}
+use Rattle.refusals.specs.declared.Refusal.{Refusal}
+use Rattle.refusals.proofs.Refusals.{refusal_with, with_back}
+use Rattle.log_frames.specs.declared.Log.{Log}
+use Rattle.log_frames.specs.declared.Outcome.{Outcome}
+use Rattle.log_frames.specs.declared.Pair.{Pair}
+use Rattle.log_frames.specs.declared.ImportEnd.{ImportEnd}
+use Rattle.log_frames.specs.declared.ImportRefused.{ImportRefused}
+use Rattle.log_frames.specs.Frames.{log_frame, outcome_frame, pair_frame, import_end_frame, import_refusal_frame, all_layouts, log_out, outcome_out, pair_out, import_end_out, import_refusal_out, a_log, an_outcome, a_pair, an_import_end, an_import_refusal}
 
 -- ---- writing and then reading
 
@@ -33,7 +32,7 @@ module _ (day reading : ℕ) (name : List ℕ) (d : day < 65536) (i : reading < 
   log_fits = fitting_named log_frame (day ∷ reading ∷ []) name refl (omega arith) (d, (i, tt)) b h
 
   pub read_write_log : (room : ℕ) → length name ≤ room
-      → read_of log_frame (line_of log_frame (day ∷ reading ∷ []) name) room ≡ log_out (record { number = 0; day = day; reading = reading; len = length name })
+      → read_of log_frame (line_of log_frame (day ∷ reading ∷ []) name) room ≡ log_out (a_log day reading (length name))
   read_write_log room r = read_write log_frame (day ∷ reading ∷ []) name log_fits room r
 
   pub buffer_write_log : (buffer : List ℕ) → length name ≤ length buffer
@@ -41,54 +40,54 @@ module _ (day reading : ℕ) (name : List ℕ) (d : day < 65536) (i : reading < 
   buffer_write_log buffer r = buffer_write log_frame (day ∷ reading ∷ []) name log_fits buffer r
 
 pub read_write_outcome : (number value : ℕ) → number < 256 → value < 65536
-    → read_of outcome_frame (line_of outcome_frame (number ∷ value ∷ []) []) 0 ≡ outcome_out (Outcome number value)
+    → read_of outcome_frame (line_of outcome_frame (number ∷ value ∷ []) []) 0 ≡ outcome_out (an_outcome number value)
 read_write_outcome number value i j =
     let f : List ℕ = number ∷ value ∷ [] in
     read_write outcome_frame f [] (fitting_plain outcome_frame f (omega arith) (i, (j, tt))) 0 (omega arith)
 
 pub read_write_pair : (id week sum count : ℕ) → id < 65536 → week < 65536 → sum < 4294967296 → count < 65536
-    → read_of pair_frame (line_of pair_frame (id ∷ week ∷ sum ∷ count ∷ []) []) 0 ≡ pair_out (Pair id week sum count)
+    → read_of pair_frame (line_of pair_frame (id ∷ week ∷ sum ∷ count ∷ []) []) 0 ≡ pair_out (a_pair id week sum count)
 read_write_pair id week sum count i j k m =
     let f : List ℕ = id ∷ week ∷ sum ∷ count ∷ [] in
     read_write pair_frame f [] (fitting_plain pair_frame f (omega arith) (i, (j, (k, (m, tt))))) 0 (omega arith)
 
 pub read_write_import_end : (outcomes pairs : ℕ) → outcomes < 65536 → pairs < 65536
-    → read_of import_end_frame (line_of import_end_frame (outcomes ∷ pairs ∷ []) []) 0 ≡ import_end_out (ImportEnd outcomes pairs)
+    → read_of import_end_frame (line_of import_end_frame (outcomes ∷ pairs ∷ []) []) 0 ≡ import_end_out (an_import_end outcomes pairs)
 read_write_import_end outcomes pairs i j =
     let f : List ℕ = outcomes ∷ pairs ∷ [] in
     read_write import_end_frame f [] (fitting_plain import_end_frame f (omega arith) (i, (j, tt))) 0 (omega arith)
 
 pub read_write_import_refusal : (part number line : ℕ) → part < 256 → number < 256 → line < 65536
-    → read_of import_refusal_frame (line_of import_refusal_frame (part ∷ number ∷ line ∷ []) []) 0 ≡ import_refusal_out (ImportRefusal part number line)
+    → read_of import_refusal_frame (line_of import_refusal_frame (part ∷ number ∷ line ∷ []) []) 0 ≡ import_refusal_out (an_import_refusal part number line)
 read_write_import_refusal part number line i j k =
     let f : List ℕ = part ∷ number ∷ line ∷ [] in
     read_write import_refusal_frame f [] (fitting_plain import_refusal_frame f (omega arith) (i, (j, (k, tt)))) 0 (omega arith)
 
 -- ---- reading and then writing
 
-pub write_read_log : (l : List ℕ) (room : ℕ) (r : LogRead) → log_out r ≡ read_of log_frame l room → r.number ≡ 0
+pub write_read_log : (l : List ℕ) (room : ℕ) (r : Log) → log_out (Ok r) ≡ read_of log_frame l room
     → line_of log_frame (r.day ∷ r.reading ∷ []) (name_in log_frame l) ≡ l
-write_read_log l room r e z = write_reading log_frame l room (log_out r) e z
+write_read_log l room r e = write_reading log_frame l room (log_out (Ok r)) e refl
 
-pub write_read_outcome : (l : List ℕ) (number value : ℕ) → outcome_out (Outcome number value) ≡ read_of outcome_frame l 0
+pub write_read_outcome : (l : List ℕ) (number value : ℕ) → outcome_out (an_outcome number value) ≡ read_of outcome_frame l 0
     → line_of outcome_frame (number ∷ value ∷ []) [] ≡ l
 unfolding name_in
-write_read_outcome l number value e = write_reading outcome_frame l 0 (outcome_out (Outcome number value)) e refl
+write_read_outcome l number value e = write_reading outcome_frame l 0 (outcome_out (an_outcome number value)) e refl
 
-pub write_read_pair : (l : List ℕ) (id week sum count : ℕ) → pair_out (Pair id week sum count) ≡ read_of pair_frame l 0
+pub write_read_pair : (l : List ℕ) (id week sum count : ℕ) → pair_out (a_pair id week sum count) ≡ read_of pair_frame l 0
     → line_of pair_frame (id ∷ week ∷ sum ∷ count ∷ []) [] ≡ l
 unfolding name_in
-write_read_pair l id week sum count e = write_reading pair_frame l 0 (pair_out (Pair id week sum count)) e refl
+write_read_pair l id week sum count e = write_reading pair_frame l 0 (pair_out (a_pair id week sum count)) e refl
 
-pub write_read_import_end : (l : List ℕ) (outcomes pairs : ℕ) → import_end_out (ImportEnd outcomes pairs) ≡ read_of import_end_frame l 0
+pub write_read_import_end : (l : List ℕ) (outcomes pairs : ℕ) → import_end_out (an_import_end outcomes pairs) ≡ read_of import_end_frame l 0
     → line_of import_end_frame (outcomes ∷ pairs ∷ []) [] ≡ l
 unfolding name_in
-write_read_import_end l outcomes pairs e = write_reading import_end_frame l 0 (import_end_out (ImportEnd outcomes pairs)) e refl
+write_read_import_end l outcomes pairs e = write_reading import_end_frame l 0 (import_end_out (an_import_end outcomes pairs)) e refl
 
-pub write_read_import_refusal : (l : List ℕ) (part number line : ℕ) → import_refusal_out (ImportRefusal part number line) ≡ read_of import_refusal_frame l 0
+pub write_read_import_refusal : (l : List ℕ) (part number line : ℕ) → import_refusal_out (an_import_refusal part number line) ≡ read_of import_refusal_frame l 0
     → line_of import_refusal_frame (part ∷ number ∷ line ∷ []) [] ≡ l
 unfolding name_in
-write_read_import_refusal l part number line e = write_reading import_refusal_frame l 0 (import_refusal_out (ImportRefusal part number line)) e refl
+write_read_import_refusal l part number line e = write_reading import_refusal_frame l 0 (import_refusal_out (an_import_refusal part number line)) e refl
 
 -- ---- no line is read as two of all frames
 
@@ -106,54 +105,72 @@ layout_unique l i j h k p q = kinds_differ i j h k (kind_unique (get_or all_layo
 
 -- ---- a contract fixes the answer: each way of setting one out can be undone
 
-abbrev log_read_back : Reading → LogRead
-log_read_back x = record { number = x.number; day = get_or x.fields 0 0; reading = get_or x.fields 1 0; len = x.len }
+log_read_back : Reading → Result Log Refusal
+log_read_back x =
+    cond (eqb x.number 0)
+    (Ok (record { day = get_or x.fields 0 0; reading = get_or x.fields 1 0; len = x.len }))
+    (Err (refusal_with x.number))
 
-pub log_out_unique : (r s : LogRead) → log_out r ≡ log_out s → r ≡ s
-log_out_unique r s e = ap log_read_back e
+log_back : (r : Result Log Refusal) → log_read_back (log_out r) ≡ r
+unfolding log_read_back
+log_back (Ok x) = refl
+log_back (Err r) = with_back r _
 
-outcome_read_back : Reading → OutcomeRead
-outcome_read_back x = cond (eqb x.number 0) (Outcome (get_or x.fields 0 0) (get_or x.fields 1 0)) NoOutcome
+pub log_out_unique : (r s : Result Log Refusal) → log_out r ≡ log_out s → r ≡ s
+log_out_unique r s e = sym (log_back r) ∙ ap log_read_back e ∙ log_back s
 
-outcome_back : (r : OutcomeRead) → outcome_read_back (outcome_out r) ≡ r
+outcome_read_back : Reading → Result Outcome Refusal
+outcome_read_back x =
+    cond (eqb x.number 0)
+    (Ok (record { case = get_or x.fields 0 0; value = get_or x.fields 1 0 }))
+    (Err (refusal_with x.number))
+
+outcome_back : (r : Result Outcome Refusal) → outcome_read_back (outcome_out r) ≡ r
 unfolding outcome_read_back
-outcome_back (Outcome number value) = refl
-outcome_back NoOutcome = refl
+outcome_back (Ok x) = refl
+outcome_back (Err r) = with_back r _
 
-pub outcome_out_unique : (r s : OutcomeRead) → outcome_out r ≡ outcome_out s → r ≡ s
+pub outcome_out_unique : (r s : Result Outcome Refusal) → outcome_out r ≡ outcome_out s → r ≡ s
 outcome_out_unique r s e = sym (outcome_back r) ∙ ap outcome_read_back e ∙ outcome_back s
 
-pair_read_back : Reading → PairRead
+pair_read_back : Reading → Result Pair Refusal
 pair_read_back x =
-    cond (eqb x.number 0) (Pair (get_or x.fields 0 0) (get_or x.fields 1 0) (get_or x.fields 2 0) (get_or x.fields 3 0)) NoPair
+    cond (eqb x.number 0)
+    (Ok (record { id = get_or x.fields 0 0; week = get_or x.fields 1 0; sum = get_or x.fields 2 0; count = get_or x.fields 3 0 }))
+    (Err (refusal_with x.number))
 
-pair_back : (r : PairRead) → pair_read_back (pair_out r) ≡ r
+pair_back : (r : Result Pair Refusal) → pair_read_back (pair_out r) ≡ r
 unfolding pair_read_back
-pair_back (Pair id week sum count) = refl
-pair_back NoPair = refl
+pair_back (Ok x) = refl
+pair_back (Err r) = with_back r _
 
-pub pair_out_unique : (r s : PairRead) → pair_out r ≡ pair_out s → r ≡ s
+pub pair_out_unique : (r s : Result Pair Refusal) → pair_out r ≡ pair_out s → r ≡ s
 pair_out_unique r s e = sym (pair_back r) ∙ ap pair_read_back e ∙ pair_back s
 
-import_end_read_back : Reading → ImportEndRead
-import_end_read_back x = cond (eqb x.number 0) (ImportEnd (get_or x.fields 0 0) (get_or x.fields 1 0)) NoEnd
+import_end_read_back : Reading → Result ImportEnd Refusal
+import_end_read_back x =
+    cond (eqb x.number 0)
+    (Ok (record { outcomes = get_or x.fields 0 0; pairs = get_or x.fields 1 0 }))
+    (Err (refusal_with x.number))
 
-import_end_back : (r : ImportEndRead) → import_end_read_back (import_end_out r) ≡ r
+import_end_back : (r : Result ImportEnd Refusal) → import_end_read_back (import_end_out r) ≡ r
 unfolding import_end_read_back
-import_end_back (ImportEnd outcomes pairs) = refl
-import_end_back NoEnd = refl
+import_end_back (Ok x) = refl
+import_end_back (Err r) = with_back r _
 
-pub import_end_out_unique : (r s : ImportEndRead) → import_end_out r ≡ import_end_out s → r ≡ s
+pub import_end_out_unique : (r s : Result ImportEnd Refusal) → import_end_out r ≡ import_end_out s → r ≡ s
 import_end_out_unique r s e = sym (import_end_back r) ∙ ap import_end_read_back e ∙ import_end_back s
 
-import_refusal_read_back : Reading → ImportRefusalRead
+import_refusal_read_back : Reading → Result ImportRefused Refusal
 import_refusal_read_back x =
-    cond (eqb x.number 0) (ImportRefusal (get_or x.fields 0 0) (get_or x.fields 1 0) (get_or x.fields 2 0)) NoRefusal
+    cond (eqb x.number 0)
+    (Ok (record { part = get_or x.fields 0 0; number = get_or x.fields 1 0; line = get_or x.fields 2 0 }))
+    (Err (refusal_with x.number))
 
-import_refusal_back : (r : ImportRefusalRead) → import_refusal_read_back (import_refusal_out r) ≡ r
+import_refusal_back : (r : Result ImportRefused Refusal) → import_refusal_read_back (import_refusal_out r) ≡ r
 unfolding import_refusal_read_back
-import_refusal_back (ImportRefusal part number line) = refl
-import_refusal_back NoRefusal = refl
+import_refusal_back (Ok x) = refl
+import_refusal_back (Err r) = with_back r _
 
-pub import_refusal_out_unique : (r s : ImportRefusalRead) → import_refusal_out r ≡ import_refusal_out s → r ≡ s
+pub import_refusal_out_unique : (r s : Result ImportRefused Refusal) → import_refusal_out r ≡ import_refusal_out s → r ≡ s
 import_refusal_out_unique r s e = sym (import_refusal_back r) ∙ ap import_refusal_read_back e ∙ import_refusal_back s

@@ -1,20 +1,17 @@
 -- The five frames of an import as layouts, and the answers of their readers set out as a reading: number, fields and length of the name.
 -- What a frame of a layout is, and what reading and writing it answer, is in `fields`; the frames of a lookup are in `frames`.
 -- Assumes nothing.
-use Rattle.std.specs.Prelude.{true, false, List, [], ◌∷◌, ◌++◌, ℕ}
+use Rattle.std.specs.Prelude.{Result, Ok, Err, true, false, List, [], ◌∷◌, ◌++◌, ℕ}
 use Rattle.fields.specs.declared.Layout.{Layout}
-use Rattle.fields.specs.declared.Reading.{Reading}
-use Rattle.fields.specs.Layouts.{refused_with}
+use Rattle.refusals.specs.declared.Refusal.{Refusal}
+use Rattle.refusals.specs.Refusals.{refusal_number}
+use Rattle.fields.specs.Layouts.{Reading, refused_with}
 use Rattle.frames.specs.Frames.{layouts}
-use Rattle.log_frames.specs.declared.LogRead.{LogRead}
-use Rattle.log_frames.specs.declared.OutcomeRead.{OutcomeRead}
-use Rattle.log_frames.specs.declared.OutcomeRead.TheVariants.{Outcome, Malformed as NoOutcome}
-use Rattle.log_frames.specs.declared.PairRead.{PairRead}
-use Rattle.log_frames.specs.declared.PairRead.TheVariants.{Pair, Malformed as NoPair}
-use Rattle.log_frames.specs.declared.ImportEndRead.{ImportEndRead}
-use Rattle.log_frames.specs.declared.ImportEndRead.TheVariants.{ImportEnd, Malformed as NoEnd}
-use Rattle.log_frames.specs.declared.ImportRefusalRead.{ImportRefusalRead}
-use Rattle.log_frames.specs.declared.ImportRefusalRead.TheVariants.{ImportRefusal, Malformed as NoRefusal}
+use Rattle.log_frames.specs.declared.Log.{Log}
+use Rattle.log_frames.specs.declared.Outcome.{Outcome}
+use Rattle.log_frames.specs.declared.Pair.{Pair}
+use Rattle.log_frames.specs.declared.ImportEnd.{ImportEnd}
+use Rattle.log_frames.specs.declared.ImportRefused.{ImportRefused}
 
 -- ---- the layouts: a kind, the widths of the fields, and whether a name follows
 
@@ -55,28 +52,46 @@ import_end_line_length = 11
 abbrev pub import_refusal_line_length : ℕ
 import_refusal_line_length = 11
 
--- ---- the answers of the five readers, set out
+-- ---- the answers of the five readers, set out: 0 and what was read, or the number of the refusal and 0 in every field
 
--- a 4C answer: its number, its day and reading, the length of its name
-abbrev pub log_out : LogRead → Reading
-log_out r = record { number = r.number; fields = r.day ∷ r.reading ∷ []; len = r.len }
+-- of a 4C line
+abbrev pub log_out : Result Log Refusal → Reading
+log_out (Ok x) = record { number = 0; fields = x.day ∷ x.reading ∷ []; len = x.len }
+log_out (Err r) = refused_with log_frame (refusal_number r)
 
--- a 4F answer: 0 and the fields of an outcome, or 11 and 0 in every field
-abbrev pub outcome_out : OutcomeRead → Reading
-outcome_out (Outcome case value) = record { number = 0; fields = case ∷ value ∷ []; len = 0 }
-outcome_out NoOutcome = refused_with outcome_frame 11
+-- of a 4F line
+abbrev pub outcome_out : Result Outcome Refusal → Reading
+outcome_out (Ok x) = record { number = 0; fields = x.case ∷ x.value ∷ []; len = 0 }
+outcome_out (Err r) = refused_with outcome_frame (refusal_number r)
 
--- a 50 answer: 0 and the fields of a pair, or 11 and 0 in every field
-abbrev pub pair_out : PairRead → Reading
-pair_out (Pair id week sum count) = record { number = 0; fields = id ∷ week ∷ sum ∷ count ∷ []; len = 0 }
-pair_out NoPair = refused_with pair_frame 11
+-- of a 50 line
+abbrev pub pair_out : Result Pair Refusal → Reading
+pair_out (Ok x) = record { number = 0; fields = x.id ∷ x.week ∷ x.sum ∷ x.count ∷ []; len = 0 }
+pair_out (Err r) = refused_with pair_frame (refusal_number r)
 
--- a 5A answer: 0 and the fields of an end, or 11 and 0 in every field
-abbrev pub import_end_out : ImportEndRead → Reading
-import_end_out (ImportEnd outcomes pairs) = record { number = 0; fields = outcomes ∷ pairs ∷ []; len = 0 }
-import_end_out NoEnd = refused_with import_end_frame 11
+-- of a 5A line
+abbrev pub import_end_out : Result ImportEnd Refusal → Reading
+import_end_out (Ok x) = record { number = 0; fields = x.outcomes ∷ x.pairs ∷ []; len = 0 }
+import_end_out (Err r) = refused_with import_end_frame (refusal_number r)
 
--- a 59 answer: 0 and the fields of a refusal, or 11 and 0 in every field
-abbrev pub import_refusal_out : ImportRefusalRead → Reading
-import_refusal_out (ImportRefusal part number line) = record { number = 0; fields = part ∷ number ∷ line ∷ []; len = 0 }
-import_refusal_out NoRefusal = refused_with import_refusal_frame 11
+-- of a 59 line
+abbrev pub import_refusal_out : Result ImportRefused Refusal → Reading
+import_refusal_out (Ok x) = record { number = 0; fields = x.part ∷ x.number ∷ x.line ∷ []; len = 0 }
+import_refusal_out (Err r) = refused_with import_refusal_frame (refusal_number r)
+
+-- ---- what is read of a line, of its fields one by one
+
+abbrev pub a_log : ℕ → ℕ → ℕ → Result Log Refusal
+a_log day reading len = Ok (record { day = day; reading = reading; len = len })
+
+abbrev pub an_outcome : ℕ → ℕ → Result Outcome Refusal
+an_outcome case value = Ok (record { case = case; value = value })
+
+abbrev pub a_pair : ℕ → ℕ → ℕ → ℕ → Result Pair Refusal
+a_pair id week sum count = Ok (record { id = id; week = week; sum = sum; count = count })
+
+abbrev pub an_import_end : ℕ → ℕ → Result ImportEnd Refusal
+an_import_end outcomes pairs = Ok (record { outcomes = outcomes; pairs = pairs })
+
+abbrev pub an_import_refusal : ℕ → ℕ → ℕ → Result ImportRefused Refusal
+an_import_refusal part number line = Ok (record { part = part; number = number; line = line })

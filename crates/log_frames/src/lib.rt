@@ -2,10 +2,11 @@
 #![tactic(auto)]
 
 ghost use Rattle.std.specs.Prelude.{◌≡◌, [], ◌∷◌, length};
-ghost use Rattle.fields.specs.Layouts.{read_of, buffer_of, written_of, out_of};
+ghost use Rattle.fields.specs.Layouts.{read_of, buffer_of, written_in, written_of, out_of};
 ghost use Rattle.log_frames.specs.Frames.{log_frame, outcome_frame, pair_frame, import_end_frame, import_refusal_frame, log_out, outcome_out, pair_out, import_end_out, import_refusal_out};
 
-use fields::{Layout, Written};
+use fields::Layout;
+use refusals::Refusal;
 
 // The layouts of the five frames.
 const LOG: Layout = Layout {
@@ -47,169 +48,174 @@ pub const IMPORT_END_LENGTH: usize = 11;
 
 pub const IMPORT_REFUSAL_LENGTH: usize = 11;
 
-// What reading a 4C line answers.
+// A 4C line: a log line, whose typed name has so many bytes.
 #[derive(Clone, Copy)]
-pub struct LogRead {
-    pub number: u8,
+pub struct Log {
     pub day: u16,
     pub reading: u16,
     pub len: usize,
 }
 
-// What reading a 4F line answers.
+// A 4F line: the outcome of a log line.
 #[derive(Clone, Copy)]
-pub enum OutcomeRead {
-    Outcome { case: u8, value: u16 },
-    Malformed,
+pub struct Outcome {
+    pub case: u8,
+    pub value: u16,
 }
 
-// What reading a 50 line answers.
+// A 50 line: what the readings of an id and a week come to.
 #[derive(Clone, Copy)]
-pub enum PairRead {
-    Pair {
-        id: u16,
-        week: u16,
-        sum: u32,
-        count: u16,
-    },
-    Malformed,
+pub struct Pair {
+    pub id: u16,
+    pub week: u16,
+    pub sum: u32,
+    pub count: u16,
 }
 
-// What reading a 5A line answers.
+// A 5A line: the end of an import.
 #[derive(Clone, Copy)]
-pub enum ImportEndRead {
-    ImportEnd { outcomes: u16, pairs: u16 },
-    Malformed,
+pub struct ImportEnd {
+    pub outcomes: u16,
+    pub pairs: u16,
 }
 
-// What reading a 59 line answers.
+// A 59 line: a refusal of an import, by the part that it is about and its number.
 #[derive(Clone, Copy)]
-pub enum ImportRefusalRead {
-    ImportRefusal { part: u8, number: u8, line: u16 },
-    Malformed,
+pub struct ImportRefused {
+    pub part: u8,
+    pub number: u8,
+    pub line: u16,
 }
 
 // Reads a 4C line, and puts the typed name at the start of the buffer.
-pub fn read_log(line: &[u8], name: &mut [u8]) -> LogRead
+pub fn read_log(line: &[u8], name: &mut [u8]) -> Result<Log, Refusal>
     ensures result_value { log_out result ≡ read_of log_frame line.now (length name.old) }
     ensures name_after { name.new ≡ buffer_of log_frame line.now name.old }
 {
-    let r = fields::read_named(line, LOG, name);
-    let day = r.fields[0] as u16;
-    let reading = r.fields[1] as u16;
-    LogRead {
-        number: r.number,
+    let parts = fields::read_named(line, LOG, name)?;
+    let day = parts.fields[0] as u16;
+    let reading = parts.fields[1] as u16;
+    Ok(Log {
         day,
         reading,
-        len: r.len,
-    }
+        len: parts.len,
+    })
 }
 
 // Writes a 4C line.
-pub fn write_log(out: &mut [u8], day: u16, reading: u16, name: &[u8]) -> Written
-    ensures value { result ≡ written_of log_frame (day ∷ reading ∷ []) name.now (length out.old) }
+pub fn write_log(out: &mut [u8], day: u16, reading: u16, name: &[u8]) -> Result<usize, Refusal>
+    ensures value { written_in result ≡ written_of log_frame (day ∷ reading ∷ []) name.now (length out.old) }
     ensures out_after { out.new ≡ out_of log_frame (day ∷ reading ∷ []) name.now out.old }
 {
-    fields::write(out, LOG, [day as u32, reading as u32, 0, 0], name)
+    fields::write(out, LOG, [u32::from(day), u32::from(reading), 0, 0], name)
 }
 
 // Reads a 4F line.
-pub fn read_outcome(line: &[u8]) -> OutcomeRead
+pub fn read_outcome(line: &[u8]) -> Result<Outcome, Refusal>
     ensures { outcome_out result ≡ read_of outcome_frame line.now 0 }
 {
-    let r = fields::read(line, OUTCOME, 0);
-    if r.number != 0 {
-        return OutcomeRead::Malformed;
-    }
-    let case = r.fields[0] as u8;
-    let value = r.fields[1] as u16;
-    OutcomeRead::Outcome { case, value }
+    let fields = fields::read(line, OUTCOME, 0)?.fields;
+    let case = fields[0] as u8;
+    let value = fields[1] as u16;
+    Ok(Outcome { case, value })
 }
 
 // Writes a 4F line.
-pub fn write_outcome(out: &mut [u8], case: u8, value: u16) -> Written
-    ensures value { result ≡ written_of outcome_frame (case ∷ value ∷ []) [] (length out.old) }
+pub fn write_outcome(out: &mut [u8], case: u8, value: u16) -> Result<usize, Refusal>
+    ensures value { written_in result ≡ written_of outcome_frame (case ∷ value ∷ []) [] (length out.old) }
     ensures out_after { out.new ≡ out_of outcome_frame (case ∷ value ∷ []) [] out.old }
 {
-    fields::write(out, OUTCOME, [case as u32, value as u32, 0, 0], &[])
+    fields::write(out, OUTCOME, [u32::from(case), u32::from(value), 0, 0], &[])
 }
 
 // Reads a 50 line.
-pub fn read_pair(line: &[u8]) -> PairRead
+pub fn read_pair(line: &[u8]) -> Result<Pair, Refusal>
     ensures { pair_out result ≡ read_of pair_frame line.now 0 }
 {
-    let r = fields::read(line, PAIR, 0);
-    if r.number != 0 {
-        return PairRead::Malformed;
-    }
-    let id = r.fields[0] as u16;
-    let week = r.fields[1] as u16;
-    let sum = r.fields[2];
-    let count = r.fields[3] as u16;
-    PairRead::Pair {
+    let fields = fields::read(line, PAIR, 0)?.fields;
+    let id = fields[0] as u16;
+    let week = fields[1] as u16;
+    let sum = fields[2];
+    let count = fields[3] as u16;
+    Ok(Pair {
         id,
         week,
         sum,
         count,
-    }
+    })
 }
 
 // Writes a 50 line.
-pub fn write_pair(out: &mut [u8], id: u16, week: u16, sum: u32, count: u16) -> Written
-    ensures value { result ≡ written_of pair_frame (id ∷ week ∷ sum ∷ count ∷ []) [] (length out.old) }
+pub fn write_pair(
+    out: &mut [u8],
+    id: u16,
+    week: u16,
+    sum: u32,
+    count: u16,
+) -> Result<usize, Refusal>
+    ensures value { written_in result ≡ written_of pair_frame (id ∷ week ∷ sum ∷ count ∷ []) [] (length out.old) }
     ensures out_after { out.new ≡ out_of pair_frame (id ∷ week ∷ sum ∷ count ∷ []) [] out.old }
 {
-    fields::write(out, PAIR, [id as u32, week as u32, sum, count as u32], &[])
+    fields::write(
+        out,
+        PAIR,
+        [u32::from(id), u32::from(week), sum, u32::from(count)],
+        &[],
+    )
 }
 
 // Reads a 5A line.
-pub fn read_import_end(line: &[u8]) -> ImportEndRead
+pub fn read_import_end(line: &[u8]) -> Result<ImportEnd, Refusal>
     ensures { import_end_out result ≡ read_of import_end_frame line.now 0 }
 {
-    let r = fields::read(line, IMPORT_END, 0);
-    if r.number != 0 {
-        return ImportEndRead::Malformed;
-    }
-    let outcomes = r.fields[0] as u16;
-    let pairs = r.fields[1] as u16;
-    ImportEndRead::ImportEnd { outcomes, pairs }
+    let fields = fields::read(line, IMPORT_END, 0)?.fields;
+    let outcomes = fields[0] as u16;
+    let pairs = fields[1] as u16;
+    Ok(ImportEnd { outcomes, pairs })
 }
 
 // Writes a 5A line.
-pub fn write_import_end(out: &mut [u8], outcomes: u16, pairs: u16) -> Written
-    ensures value { result ≡ written_of import_end_frame (outcomes ∷ pairs ∷ []) [] (length out.old) }
+pub fn write_import_end(out: &mut [u8], outcomes: u16, pairs: u16) -> Result<usize, Refusal>
+    ensures value { written_in result ≡ written_of import_end_frame (outcomes ∷ pairs ∷ []) [] (length out.old) }
     ensures out_after { out.new ≡ out_of import_end_frame (outcomes ∷ pairs ∷ []) [] out.old }
 {
-    fields::write(out, IMPORT_END, [outcomes as u32, pairs as u32, 0, 0], &[])
+    fields::write(
+        out,
+        IMPORT_END,
+        [u32::from(outcomes), u32::from(pairs), 0, 0],
+        &[],
+    )
 }
 
 // Reads a 59 line.
-pub fn read_import_refusal(line: &[u8]) -> ImportRefusalRead
+pub fn read_import_refusal(line: &[u8]) -> Result<ImportRefused, Refusal>
     ensures { import_refusal_out result ≡ read_of import_refusal_frame line.now 0 }
 {
-    let r = fields::read(line, IMPORT_REFUSAL, 0);
-    if r.number != 0 {
-        return ImportRefusalRead::Malformed;
-    }
-    let part = r.fields[0] as u8;
-    let number = r.fields[1] as u8;
-    let at = r.fields[2] as u16;
-    ImportRefusalRead::ImportRefusal {
+    let fields = fields::read(line, IMPORT_REFUSAL, 0)?.fields;
+    let part = fields[0] as u8;
+    let number = fields[1] as u8;
+    let at = fields[2] as u16;
+    Ok(ImportRefused {
         part,
         number,
         line: at,
-    }
+    })
 }
 
 // Writes a 59 line.
-pub fn write_import_refusal(out: &mut [u8], part: u8, number: u8, line: u16) -> Written
-    ensures value { result ≡ written_of import_refusal_frame (part ∷ number ∷ line ∷ []) [] (length out.old) }
+pub fn write_import_refusal(
+    out: &mut [u8],
+    part: u8,
+    number: u8,
+    line: u16,
+) -> Result<usize, Refusal>
+    ensures value { written_in result ≡ written_of import_refusal_frame (part ∷ number ∷ line ∷ []) [] (length out.old) }
     ensures out_after { out.new ≡ out_of import_refusal_frame (part ∷ number ∷ line ∷ []) [] out.old }
 {
     fields::write(
         out,
         IMPORT_REFUSAL,
-        [part as u32, number as u32, line as u32, 0],
+        [u32::from(part), u32::from(number), u32::from(line), 0],
         &[],
     )
 }

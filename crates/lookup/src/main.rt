@@ -4,13 +4,15 @@
 // the program with status 1.
 #![tactic(auto)]
 
-ghost use Rattle.std.specs.Prelude.{◌≡◌, true, ◌+◌, ◌≤◌, ◌<◌, length};
+ghost use Rattle.std.specs.Prelude.{◌≡◌, ◌+◌, ◌≤◌, ◌<◌, length, take, drop, IfOk};
+ghost use Rattle.std.specs.Io.KnownBytes.{Appends};
+ghost use Rattle.refusals.specs.Refusals.{refusal_number};
 ghost use Rattle.answers.specs.Output.{most_input, program_words, longest_answer, opened_of, output_of};
 ghost use Rattle.lookup.specs.Pieces.{Next, Opened};
 
+use refusals::Refusal;
 use std::io::{Error, Read, Write};
 use std::process::ExitCode;
-use streams::Input;
 
 // ---- reading
 
@@ -22,112 +24,95 @@ fn room() -> [u8; answers::MOST_INPUT + 1]
 }
 
 // Reads until the input ends or the room is full.
-fn read_input<R: Read>(reader: &mut R, space: &mut [u8]) -> Input
+fn read_input<R: Read>(reader: &mut R, space: &mut [u8]) -> Result<usize, Error>
     requires { length space.old ≡ most_input + 1 }
-    ensures { result.len ≤ length space.new }
+    ensures { IfOk result (λ len. len ≤ length space.new) }
 {
     streams::read_input(reader, space)
 }
 
 // ---- writing
 
-// What was handed over of the output: how many bytes, whether every write took what it was given, and why one did not.
-#[derive(Clone, Copy)]
-struct Sent {
-    bytes: usize,
-    whole: bool,
-    failure: Option<Error>,
-}
-
-// Hands over the next piece of the output: the first `len` bytes of the buffer, after the `sent` bytes before them.
-fn hand_over<W: Write>(
-    writer: &mut W,
-    input: &[u8],
-    sent: usize,
-    number: u8,
-    len: usize,
-    out: &[u8],
-) -> Sent
-    requires { Next input.now sent number len out.now }
-    ensures { result.whole ≡ true → result.bytes ≡ sent + len }
+// Hands over the next piece of the output, after the `sent` bytes before it. It fails where a write did.
+fn hand_over<W: Write>(writer: &mut W, input: &[u8], sent: usize, piece: &[u8]) -> Result<(), Error>
+    requires { Next input.now sent piece.now }
+    ensures { IfOk result (λ _. Appends (W.contents writer.old) (W.contents writer.new) (take (length piece.now) (drop sent (output_of input.now)))) }
 {
-    let output = streams::write_text(writer, &out[..len]);
-    let taken = output.taken;
-    Sent {
-        bytes: sent + taken,
-        whole: taken == len,
-        failure: output.failure,
-    }
+    streams::write_text(writer, piece).map_err(|failed| failed.error)
 }
 
 // ---- answering
 
 // Answers an input that is refused: with one 58 line of no touches.
-fn refuse<W: Write>(writer: &mut W, input: &[u8], number: u8, out: &mut [u8]) -> Sent
-    requires { (number ≡ (opened_of input.now program_words).number) × (number ≡ 0 → ⊥) × (length out.old ≡ longest_answer) }
-    ensures { result.whole ≡ true → result.bytes ≡ length (output_of input.now) }
+fn refuse<W: Write>(
+    writer: &mut W,
+    input: &[u8],
+    refusal: Refusal,
+    out: &mut [u8],
+) -> Result<(), Error>
+    requires { (refusal_number refusal ≡ (opened_of input.now program_words).number) × (length out.old ≡ longest_answer) }
+    ensures { IfOk result (λ _. Appends (W.contents writer.old) (W.contents writer.new) (output_of input.now)) }
 {
-    let refusal = frames::write_refusal(out, number, 0);
-    hand_over(writer, input, 0, refusal.number, refusal.len, out)
+    let len = frames::write_refusal(out, refusal.number(), 0).unwrap();
+    hand_over(writer, input, 0, &out[..len])
 }
 
-// Answers the lines of an input that was opened, from `from` on, until all are answered or a write fails.
+// Answers the lines of an input that was opened, from `from` on, until all are answered or a write fails. Each turn goes on to the next line, which
+// the answer to the one before tells.
 fn answer_lines<W: Write>(
     writer: &mut W,
     input: &[u8],
     from: usize,
     words: &[u32],
     out: &mut [u8],
-) -> Sent
+) -> Result<(), Error>
     requires { Opened input.now words.now from × (length out.old ≡ longest_answer) }
-    ensures { result.whole ≡ true → result.bytes ≡ length (output_of input.now) }
+    ensures { IfOk result (λ _. Appends (W.contents writer.old) (W.contents writer.new) (output_of input.now)) }
 {
     let mut sent: usize = 0;
     let mut at = from;
     while at < input.len() {
         let response = answers::respond_good(input, at, words, out);
-        let piece = hand_over(writer, input, sent, response.number, response.len, out);
-        if !piece.whole {
-            return piece;
-        }
-        sent = piece.bytes;
+        let len = response.written.unwrap();
+        hand_over(writer, input, sent, &out[..len])?;
+        sent += len;
         at = response.next;
     }
-    Sent {
-        bytes: sent,
-        whole: true,
-        failure: None,
-    }
+    Ok(())
 }
 
 // Opens the input, and answers its queries or refuses it.
-fn answer_input<W: Write>(writer: &mut W, input: &[u8], words: &mut [u32], out: &mut [u8]) -> Sent
+fn answer_input<W: Write>(
+    writer: &mut W,
+    input: &[u8],
+    words: &mut [u32],
+    out: &mut [u8],
+) -> Result<(), Error>
     requires { (length words.old ≡ program_words) × (length out.old ≡ longest_answer) }
-    ensures { result.whole ≡ true → result.bytes ≡ length (output_of input.now) }
+    ensures { IfOk result (λ _. Appends (W.contents writer.old) (W.contents writer.new) (output_of input.now)) }
 {
     let opened = answers::open(input, words);
-    let number = opened.number;
-    if number != 0 {
-        return refuse(writer, input, number, out);
+    match opened.built {
+        Ok(()) => answer_lines(writer, input, opened.at, words, out),
+        Err(refused) => refuse(writer, input, refused.refusal, out),
     }
-    answer_lines(writer, input, opened.at, words, out)
 }
 
 fn main(rt: HostRuntime) -> ExitCode {
     let mut space = room();
-    let input = read_input(&mut rt.stdin(), &mut space);
-    if !input.whole {
-        let what = "lookup: standard input cannot be read, so nothing is answered";
-        streams::fail(&rt, what, &input.failure);
-        return ExitCode::FAILURE;
-    }
-    let len = input.len;
+    let len = match read_input(&mut rt.stdin(), &mut space) {
+        Ok(len) => len,
+        Err(error) => {
+            let what = "lookup: standard input cannot be read, so nothing is answered";
+            streams::fail(&rt, what, &error);
+            return ExitCode::FAILURE;
+        }
+    };
     let mut words = [0u32; answers::INDEX_WORDS];
     let mut out = [0u8; answers::LONGEST_ANSWER];
-    let sent = answer_input(&mut rt.stdout(), &space[..len], &mut words, &mut out);
-    if !sent.whole {
+    if let Err(error) = answer_input(&mut rt.stdout(), &space[..len], &mut words, &mut out) {
         let what = "lookup: standard output cannot be written, so the answers are not all there";
-        streams::fail(&rt, what, &sent.failure);
+        streams::fail(&rt, what, &error);
         return ExitCode::FAILURE;
     }
     ExitCode::SUCCESS

@@ -1,3 +1,4 @@
 pub mod Laws
 pub mod Shared
 mod Lemmas
+pub mod Chains

@@ -3,9 +3,12 @@
 
 ghost use Rattle.std.specs.Prelude.{◌≡◌, [], ℕ, ◌+◌, ◌/◌, ◌%◌, ◌≤◌, ◌<◌, length, get_or};
 ghost use Rattle.laws.specs.Lists.{member};
+ghost use Rattle.refusals.specs.Refusals.{outcome_number};
 ghost use Rattle.names.specs.Names.{is_control, has_control, judge_of};
 ghost use Rattle.names.specs.Features.{padded, gram_at, times_in, features_of, gram_length, characters, most_features};
 ghost use Rattle.names.specs.Set.{filled, marks, Ends};
+
+use refusals::Refusal;
 
 // The most bytes that a name has.
 pub const LONGEST: usize = 200;
@@ -36,65 +39,41 @@ impl FeatureSet {
 fn has_zero(name: &[u8]) -> bool
     ensures { result ≡ member 0 name.now }
 {
-    let mut i = 0;
-    while i < name.len() {
-        if name[i] == 0 {
-            return true;
-        }
-        i += 1;
-    }
-    false
+    name.contains(&0)
 }
 
 // Whether a byte is a control character: below 32, or 127.
 fn is_control(byte: u8) -> bool
     ensures { result ≡ is_control byte }
 {
-    if byte < 32 {
-        return true;
-    }
-    byte == 127
+    byte < 32 || byte == 127
 }
 
 // Whether a byte of the name is a control character.
 fn has_control(name: &[u8]) -> bool
     ensures { result ≡ has_control name.now }
 {
-    let mut at = 0;
-    while at < name.len() {
-        if is_control(name[at]) {
-            return true;
-        }
-        at += 1;
-    }
-    false
+    name.iter().any(|byte| is_control(*byte))
 }
 
-// 0 for a good name; 1 for an empty one, then 2 for one that is too long, then 3 for a 0 byte, then 12 for another control character.
+// Refuses an empty name, then one that is too long, then one with a 0 byte, then one with another control character.
 // A 0 byte is a control character too, so a good name is read through once.
-pub fn judge(name: &[u8]) -> u8
-    ensures { result ≡ judge_of name.now }
+pub fn judge(name: &[u8]) -> Result<(), Refusal>
+    ensures { outcome_number result ≡ judge_of name.now }
 {
-    let n = name.len();
-    if n == 0 {
-        return 1;
+    if name.is_empty() {
+        return Err(Refusal::Empty);
     }
-    if LONGEST < n {
-        return 2;
+    if name.len() > LONGEST {
+        return Err(Refusal::TooLong);
     }
     if !has_control(name) {
-        return 0;
+        return Ok(());
     }
     if has_zero(name) {
-        return 3;
+        return Err(Refusal::ZeroByte);
     }
-    12
-}
-
-fn wide(x: u8) -> u64
-    ensures { (result ≡ x) × (result < 256) }
-{
-    x as u64
+    Err(Refusal::ControlCharacter)
 }
 
 // The character at place k of the padded name.
@@ -104,11 +83,10 @@ fn character_at(name: &[u8], k: usize) -> u64
     if k < 2 {
         return 0;
     }
-    let j = k - 2;
-    if j < name.len() {
-        return wide(name[j]);
+    match name.get(k - 2) {
+        Some(byte) => u64::from(*byte),
+        None => 0,
     }
-    0
 }
 
 // The gram at place i, from one whose last two characters are its first two.
@@ -124,13 +102,11 @@ fn times_in(items: &[u64], gram: u64, k: usize) -> u64
     requires { (k ≤ length items.now) × (k ≤ most_features) }
     ensures { (result ≡ times_in (λ (j : ℕ). get_or items.now j 0 / 256) gram k) × (result ≤ k) }
 {
-    let mut n: u64 = 0;
-    let mut j = 0;
-    while j < k {
-        if items[j] / 256 == gram {
+    let mut n = 0;
+    for item in &items[..k] {
+        if *item / 256 == gram {
             n += 1;
         }
-        j += 1;
     }
     n
 }
@@ -162,13 +138,11 @@ pub fn features_good(name: &[u8]) -> FeatureSet
     let mut marked = [0u8; 251];
     let size = name.len() + 2;
     let mut gram: u64 = 0;
-    let mut i = 0;
-    while i < size {
+    for i in 0..size {
         gram = next_gram(name, gram, i);
         let number = times_marked(&set.items, &marked, gram, i) + 1;
         set.items[i] = gram * 256 + number;
         marked[mark_place(gram)] = 1;
-        i += 1;
     }
     set.len = size;
     set
@@ -178,8 +152,8 @@ pub fn features_good(name: &[u8]) -> FeatureSet
 pub fn features(name: &[u8]) -> FeatureSet
     ensures { result ≡ filled (features_of name.now) }
 {
-    if judge(name) != 0 {
-        return FeatureSet::empty();
+    match judge(name) {
+        Ok(()) => features_good(name),
+        Err(_) => FeatureSet::empty(),
     }
-    features_good(name)
 }

@@ -5,7 +5,7 @@
 use std::io;
 
 fn show<P: Print>(rt: &P, name: &[u8]) -> io::Result<()> {
-    let number = names::judge(name);
+    let number = refusals::number_in(names::judge(name));
     let set = names::features(name);
     println!(rt; "{number} {}", set.len)
 }

@@ -16,9 +16,7 @@ use Rattle.likeness.specs.Terms.{lowest_terms}
 use Rattle.words.specs.Words.{name_id, name_size}
 use Rattle.index.specs.Good.{most_names}
 use Rattle.sizes.specs.Method.{shared_with, touches_of, answers_of}
-use Rattle.search.specs.declared.Answer.{Answer}
-use Rattle.search.specs.declared.Answer.TheVariants.{Found, Refused}
-use Rattle.search.specs.Answers.{number_in, rows_in, refusal_cases, refusal_of, search_good_of, search_of, given_by, Columns, least_for, columns_of}
+use Rattle.search.specs.Answers.{Answer, Found, Refused, number_in, rows_in, refusal_cases, refusal_of, search_good_of, search_of, given_by, Columns, least_for, columns_of}
 use Rattle.search.proofs.Outcomes.{refused_gives, admitted}
 use Rattle.rows.proofs.Answers.{answers_few, outcome}
 use Rattle.queries.specs.Queries.{lies_in, part_of, answer_for, rows_given}

@@ -20,10 +20,9 @@ use Rattle.laws.proofs.Lists.{length_tabulate}
 use Rattle.laws.proofs.Below.{sum_below_step}
 use Rattle.laws.proofs.Tables.{table_over, over_nil, over_step}
 use Rattle.index.specs.Good.{most_names}
-use Rattle.search.specs.declared.Answer.{Answer}
+use Rattle.search.specs.Answers.{Answer, number_in, rows_in, touches_in, search_of, given_by, Columns, room_of, columns_of, over, columns_over, Searched}
 use Rattle.names.specs.Features.{features_of}
 use Rattle.sizes.specs.Method.{answers_of}
-use Rattle.search.specs.Answers.{number_in, rows_in, touches_in, search_of, given_by, Columns, room_of, columns_of, over, columns_over, Searched}
 use Rattle.queries.specs.Queries.{Outcomes, outcomes_over, join_below, over_from, columns_from, part_of, answer_for, rows_given, start_at, answer_at, columns_at, rows_before, outcomes_below, columns_below, reached_of, row_room, query_room, reached_in, come_of, Asked}
 use Rattle.queries.proofs.Room.{no_columns, query_lies, answer_beside, answer_rows, given_none, given_rows}
 
@@ -160,20 +159,6 @@ first_later t i j c e f = rw (e, f)
 first_now : (t : ℕ → Bool) (i j c : ℕ) → i ≡ suc j → t c ≡ true → first_from t i c ≡ c
 unfolding first_from
 first_now t i j c e f = rw (e, f)
-
--- ---- columns that are as long as they were
-
-pub record Kept (o o' : Outcomes) (c c' : Columns) : Type 0 where
-  pub numbers : length o'.numbers ≡ length o.numbers
-  pub until : length o'.until ≡ length o.until
-  pub touches : length o'.touches ≡ length o.touches
-  pub ids : length c'.ids ≡ length c.ids
-  pub shared : length c'.shared ≡ length c.shared
-  pub sizes : length c'.sizes ≡ length c.sizes
-  pub least : length c'.least ≡ length c.least
-
-pub kept_all : (o : Outcomes) (c : Columns) → Kept o o c c
-kept_all o c = record { numbers = refl; until = refl; touches = refl; ids = refl; shared = refl; sizes = refl; least = refl }
 
 -- ---- the first k queries
 

@@ -3,8 +3,7 @@
 -- with nothing left open, proved as it stands by `demands` of proofs/Demands.antt. Assumes nothing.
 use Rattle.std.specs.Prelude.{◌≡◌, ◌⊎◌, false, List, ℕ, ◌+◌, ◌*◌, ◌≤◌, ◌<◌, length, get_or, take, drop}
 use Rattle.index.specs.Good.{most_names}
-use Rattle.search.specs.declared.Answer.TheVariants.{Refused}
-use Rattle.search.specs.Answers.{number_in, rows_in, touches_in, search_of, Columns}
+use Rattle.search.specs.Answers.{Refused, number_in, rows_in, touches_in, search_of, Columns}
 use Rattle.queries.specs.Queries.{Outcomes, lies_in, part_of, start_at, answer_at, columns_at, rows_before, row_room, query_room, reached_in, come_of, outcomes_after, columns_after}
 
 -- a part of a column: so many places from one on

@@ -7,10 +7,21 @@ use Rattle.laws.specs.First.{first_from}
 use Rattle.names.specs.Features.{features_of}
 use Rattle.index.specs.Good.{most_names}
 use Rattle.sizes.specs.Method.{answers_of}
-use Rattle.search.specs.declared.Answer.{Answer}
-use Rattle.search.specs.declared.Answer.TheVariants.{Refused}
-use Rattle.search.specs.Answers.{number_in, rows_in, touches_in, search_of, given_by, Columns, room_of, columns_of, over, columns_over}
-use Rattle.queries.specs.declared.Come.{Come}
+use Rattle.search.specs.Answers.{Answer, Refused, number_in, rows_in, touches_in, search_of, given_by, Columns, room_of, columns_of, over, columns_over}
+use Rattle.refusals.specs.Refusals.{outcome_number}
+use Rattle.queries.specs.declared.Come.{Come as ComeOut}
+
+-- ---- what a call answers, as the numbers that the rule sets out
+
+-- 0 where every query has its outcome and 8 otherwise, how many have, and how many rows there are
+pub record Come : Type 0 where
+  pub number : ℕ
+  pub queries : ℕ
+  pub rows : ℕ
+
+-- what the code answers, set out
+abbrev pub come_in : ComeOut → Come
+come_in c = record { number = outcome_number c.outcome; queries = c.queries; rows = c.rows }
 
 -- ---- columns of outcomes
 

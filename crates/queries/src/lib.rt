@@ -3,16 +3,18 @@
 #![tactic(auto)]
 
 ghost use Rattle.std.specs.Prelude.{◌≡◌, ◌-◌, ◌≤◌, ◌<◌, min, length, eqb, cond};
+ghost use Rattle.refusals.specs.Refusals.{outcome_number};
 ghost use Rattle.index.specs.Good.{good_of};
-ghost use Rattle.search.specs.Answers.{number_in, rows_in, touches_in, as_columns, columns_over};
-ghost use Rattle.queries.specs.Queries.{most, as_outcomes, outcomes_over, columns_from, answer_for, rows_given, rows_before, outcomes_below, columns_below, reached_of, Asked};
+ghost use Rattle.search.specs.Answers.{answer_in, number_in, rows_in, touches_in, as_columns, columns_over};
+ghost use Rattle.queries.specs.Queries.{most, as_outcomes, outcomes_over, columns_from, answer_for, rows_given, rows_before, outcomes_below, columns_below, reached_of, come_in, Asked};
 
+use refusals::Refusal;
 use search::Answer;
 
-// What a call answers: 0 where every query has its outcome, 8 otherwise; how many have, and how many rows were written.
+// What a call answers: whether every query has its outcome, and otherwise that there was no room; how many have, and how many rows were written.
 #[derive(Clone, Copy)]
 pub struct Come {
-    pub number: u8,
+    pub outcome: Result<(), Refusal>,
     pub queries: u32,
     pub rows: u32,
 }
@@ -42,23 +44,12 @@ fn one(
     least: &mut [u32],
 ) -> Answer
     requires { (good ≡ good_of words.now) × (used ≤ room) × (room ≤ length ids.old) × (room ≤ length shared.old) × (room ≤ length sizes.old) × (room ≤ length least.old) }
-    ensures { (result ≡ answer_for bytes.now from to measure p q allowance words.now (room - used)) × (as_columns ids.new shared.new sizes.new least.new ≡ columns_from used (rows_given bytes.now from to measure p q allowance words.now result) (as_columns ids.old shared.old sizes.old least.old)) }
+    ensures { (answer_in result ≡ answer_for bytes.now from to measure p q allowance words.now (room - used)) × (as_columns ids.new shared.new sizes.new least.new ≡ columns_from used (rows_given bytes.now from to measure p q allowance words.now (answer_in result)) (as_columns ids.old shared.old sizes.old least.old)) }
 {
-    if to < from {
-        return Answer::Refused {
-            number: 11,
-            touches: 0,
-        };
-    }
-    if bytes.len() < to {
-        return Answer::Refused {
-            number: 11,
-            touches: 0,
-        };
-    }
+    let query = bytes.get(from..to).ok_or(Refusal::Malformed)?;
     search::search_checked(
         good,
-        &bytes[from..to],
+        query,
         measure,
         p,
         q,
@@ -71,6 +62,16 @@ fn one(
     )
 }
 
+// Whether a search is refused for want of room.
+fn lacks_room(answer: Answer) -> bool
+    ensures { result ≡ eqb (number_in (answer_in answer)) 8 }
+{
+    match answer {
+        Ok(_) => false,
+        Err(refused) => refused.refusal == Refusal::NoRoom,
+    }
+}
+
 // What an answer tells of a query.
 #[derive(Clone, Copy)]
 struct Told {
@@ -80,18 +81,18 @@ struct Told {
 }
 
 fn tell(answer: Answer) -> Told
-    ensures { (result.number ≡ number_in answer) × (result.rows ≡ rows_in answer) × (result.touches ≡ touches_in answer) }
+    ensures { (result.number ≡ number_in (answer_in answer)) × (result.rows ≡ rows_in (answer_in answer)) × (result.touches ≡ touches_in (answer_in answer)) }
 {
     match answer {
-        Answer::Found { rows, touches, .. } => Told {
+        Ok(found) => Told {
             number: 0,
-            rows: rows as usize,
-            touches,
+            rows: found.rows as usize,
+            touches: found.touches,
         },
-        Answer::Refused { number, touches } => Told {
-            number: number as u32,
+        Err(refused) => Told {
+            number: u32::from(refused.refusal.number()),
             rows: 0,
-            touches,
+            touches: refused.touches,
         },
     }
 }
@@ -131,31 +132,29 @@ fn each_query(
     ensures touches_after { as_outcomes numbers.new until.new touches.new ≡ outcomes_over (outcomes_below bytes.now ends.now measure p q allowance words.now result.queries) (as_outcomes numbers.old until.old touches.old) }
     ensures least_after { as_columns ids.new shared.new sizes.new least.new ≡ columns_over (columns_below bytes.now ends.now measure p q allowance words.now result.queries) (as_columns ids.old shared.old sizes.old least.old) }
 {
-    let mut k = 0;
     let mut used = 0;
     let mut from = 0;
-    while k < n {
+    for k in 0..n {
         let to = ends[k] as usize;
         let answer = one(
             good, bytes, from, to, measure, p, q, allowance, words, used, room, ids, shared, sizes,
             least,
         );
-        let of = tell(answer);
-        if of.number == 8 {
+        if lacks_room(answer) {
             return Reached {
                 queries: k,
                 rows: used,
             };
         }
+        let of = tell(answer);
         used += of.rows;
         numbers[k] = of.number;
         until[k] = used as u32;
         touches[k] = of.touches;
         from = to;
-        k += 1;
     }
     Reached {
-        queries: k,
+        queries: n,
         rows: used,
     }
 }
@@ -164,17 +163,18 @@ fn each_query(
 fn room_of(a: usize, b: usize, c: usize, d: usize) -> usize
     ensures { result ≡ min (min a (min b (min c d))) most }
 {
-    search::smaller(
-        search::smaller(a, search::smaller(b, search::smaller(c, d))),
-        MOST,
-    )
+    a.min(b).min(c).min(d).min(MOST)
 }
 
-// The number of a call that reached so many of the queries asked.
-fn number_of(reached: usize, asked: usize) -> u8
-    ensures { result ≡ cond (eqb reached asked) 0 8 }
+// The outcome of a call that reached so many of the queries asked.
+fn outcome_of(reached: usize, asked: usize) -> Result<(), Refusal>
+    ensures { outcome_number result ≡ cond (eqb reached asked) 0 8 }
 {
-    if reached == asked { 0 } else { 8 }
+    if reached == asked {
+        Ok(())
+    } else {
+        Err(Refusal::NoRoom)
+    }
 }
 
 // The names that are like each of many queries by one measure and threshold, within an allowance for each.
@@ -194,7 +194,7 @@ pub fn search_many(
     sizes: &mut [u32],
     least: &mut [u32],
 ) -> Come
-    ensures { Asked bytes.now ends.now measure p q allowance words.now (as_outcomes numbers.old until.old touches.old) (as_outcomes numbers.new until.new touches.new) (as_columns ids.old shared.old sizes.old least.old) (as_columns ids.new shared.new sizes.new least.new) result }
+    ensures { Asked bytes.now ends.now measure p q allowance words.now (as_outcomes numbers.old until.old touches.old) (as_outcomes numbers.new until.new touches.new) (as_columns ids.old shared.old sizes.old least.old) (as_columns ids.new shared.new sizes.new least.new) (come_in result) }
 {
     let good = index::good(words);
     let n = room_of(ends.len(), numbers.len(), until.len(), touches.len());
@@ -203,11 +203,11 @@ pub fn search_many(
         good, bytes, ends, measure, p, q, allowance, words, n, room, numbers, until, touches, ids,
         shared, sizes, least,
     );
-    let number = number_of(reached.queries, ends.len());
+    let outcome = outcome_of(reached.queries, ends.len());
     let queries = reached.queries as u32;
     let rows = reached.rows as u32;
     Come {
-        number,
+        outcome,
         queries,
         rows,
     }

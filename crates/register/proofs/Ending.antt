@@ -2,12 +2,13 @@
 -- Assumes nothing.
 use mathlib.Core.Path.{◌≡◌, sym, ap, ap₂, subst, ◌∙◌}
 use mathlib.Core.Bool.{true, false}
-use mathlib.Core.List.{List, map}
+use mathlib.Core.List.{List, ◌++◌, map}
 use Prim.Native.Nat.{ℕ, ◌≤◌}
 use native.Mathlib.Nat.{min-le_right}
 use native.Mathlib.Omega.{arith}
 use borrow.Author.Tests.{eq-eqb, ne_eqb}
-use lib.ListN.{length, take, replicate, length-take}
+use lib.ListN.{length, take, drop, replicate, length-take}
+use lib.Seq.{length-take-le, take_at}
 use Rattle.index.specs.Good.{most_names, most_postings}
 use Rattle.index_writer.specs.Built.{Entry, word_of, runs_of, words_from, rows_of, words_of, Fit}
 use Rattle.index_writer.specs.Keys.{triples_at, all_keys, Keyed}
@@ -49,6 +50,15 @@ held {es} {names} {keys} {n} {p} t ordered a d =
       ordered_within = omega arith;
       sizes = ap sizes_of t.words ∙ sizes_keys 0 es t.fit.each ∙ sym s;
     }
+
+-- the keys once they are in order, where they were put
+pub in_order : {es : List Entry} {names keys ordered : List ℕ} {n p : ℕ} → Held es names keys ordered n p → (out : List ℕ)
+    → length out ≡ length (take p ordered) → out ≡ ordered_of (take n names) (take p keys)
+    → take p (out ++ drop p ordered) ≡ ordered_of (take n names) (all_keys es)
+in_order {es} {names} {keys} {ordered} {n} {p} h out l e =
+    take_at out (drop p ordered) p (l ∙ length-take-le p ordered h.ordered_within)
+    ∙ e
+    ∙ ap (ordered_of (take n names)) h.tables.postings
 
 -- ---- the answer
 

@@ -13,11 +13,9 @@ use Rattle.laws.specs.Cases.{Case, case, first_case}
 use Rattle.laws.proofs.Cases.{not_false, first_here, first_next, first_passed, first_front, first_behind, first_split}
 use Rattle.names.specs.Names.{name_cases, judge_of}
 use Rattle.names.proofs.Laws.{names_numbered}
-use Rattle.fields.specs.declared.Reading.{Reading}
-use Rattle.fields.specs.Layouts.{is_frame, read_of, buffer_of, accepted_as, refused_with}
+use Rattle.fields.specs.Layouts.{Reading, is_frame, read_of, buffer_of, accepted_as, refused_with}
 use Rattle.fields.proofs.Laws.{read_roomy}
-use Rattle.frames.specs.declared.NameRead.{NameRead}
-use Rattle.frames.specs.Frames.{name_frame, name_out}
+use Rattle.frames.specs.Frames.{name_frame}
 use Rattle.index.specs.Good.{most_names}
 use Rattle.register.specs.Build.{id_in, name_of, judge_line}
 use Rattle.register.specs.Steps.{Heard}
@@ -81,16 +79,15 @@ good_line count next line z =
 
 -- ---- a line that was read into a buffer of 255 bytes
 
--- a line that was read: its number where it is bad, and otherwise its id, and its name at the start of the buffer
-pub record LineRead (r : NameRead) (line after : List ℕ) : Type 0 where
-  pub bad : (r.number ≡ 0 → ⊥) → (count next : ℕ) → r.number ≡ judge_line count next line
-  pub frame : r.number ≡ 0 → is_frame name_frame line ≡ true
-  pub id : r.number ≡ 0 → r.id ≡ id_in line
-  pub within : r.number ≡ 0 → r.len ≤ length after
-  pub name : r.number ≡ 0 → take r.len after ≡ name_of line
+-- a good line that was read: its id, and its name at the start of the buffer
+pub record LineRead (r : Reading) (line after : List ℕ) : Type 0 where
+  pub frame : is_frame name_frame line ≡ true
+  pub id : get_or r.fields 0 0 ≡ id_in line
+  pub within : r.len ≤ length after
+  pub name : take r.len after ≡ name_of line
 
-module _ (r : NameRead) (line buffer after : List ℕ) (size : length buffer ≡ 255) (e : name_out r ≡ read_of name_frame line (length buffer)) (a : after ≡ buffer_of name_frame line buffer) where
-  read_as : (t : Bool) → is_frame name_frame line ≡ t → name_out r ≡ cond t (accepted_as name_frame line) (refused_with name_frame 11)
+module _ (r : Reading) (line buffer after : List ℕ) (size : length buffer ≡ 255) (e : r ≡ read_of name_frame line (length buffer)) (a : after ≡ buffer_of name_frame line buffer) where
+  read_as : (t : Bool) → is_frame name_frame line ≡ t → r ≡ cond t (accepted_as name_frame line) (refused_with name_frame 11)
   read_as t f = e ∙ read_roomy name_frame line (length buffer) (omega arith) ∙ ap (λ (x : Bool). cond x (accepted_as name_frame line) (refused_with name_frame 11)) f
 
   read_frame : r.number ≡ 0 → is_frame name_frame line ≡ true
@@ -100,14 +97,15 @@ module _ (r : NameRead) (line buffer after : List ℕ) (size : length buffer ≡
       by_test true f = refl
       by_test false f = let n : r.number ≡ 11 = ap (λ (x : Reading). x.number) (read_as false f) in absurd (omega arith)
 
-  read_bad : (count next : ℕ) → (r.number ≡ 0 → ⊥) → r.number ≡ judge_line count next line
+  -- a line that was not read is bad
+  pub read_bad : (count next : ℕ) → (r.number ≡ 0 → ⊥) → r.number ≡ judge_line count next line
   read_bad count next n = by_test (is_frame name_frame line) refl
     where
       by_test : (t : Bool) → is_frame name_frame line ≡ t → r.number ≡ judge_line count next line
       by_test true f = absurd (n (ap (λ (x : Reading). x.number) (read_as true f)))
       by_test false f = ap (λ (x : Reading). x.number) (read_as false f) ∙ sym (judged_malformed count next line f)
 
-  read_id : r.number ≡ 0 → r.id ≡ id_in line
+  read_id : r.number ≡ 0 → get_or r.fields 0 0 ≡ id_in line
   read_id z = ap (λ (x : Reading). get_or x.fields 0 0) (read_as true (read_frame z))
 
   read_len : r.number ≡ 0 → r.len ≡ length (name_of line)
@@ -131,8 +129,8 @@ module _ (r : NameRead) (line buffer after : List ℕ) (size : length buffer ≡
       ∙ ap (take (length (name_of line))) (left z)
       ∙ take-append_seam (name_of line) (drop (length (name_of line)) buffer)
 
-  pub line_read : LineRead r line after
-  line_read = record { bad = λ n count next. read_bad count next n; frame = read_frame; id = read_id; within = read_within; name = read_name }
+  pub line_read : r.number ≡ 0 → LineRead r line after
+  line_read z = record { frame = read_frame z; id = read_id z; within = read_within z; name = read_name z }
 
 -- ---- what judging answers
 

@@ -1,4 +1,3 @@
-pub mod Pasted
 pub mod Judging
 pub mod Taking
 pub mod Ending

@@ -1,17 +1,21 @@
 -- The lines one after the other: what has been reached, and what one line more does to it.
 -- Assumes nothing.
 use mathlib.Core.Path.{◌≡◌, refl, sym, ap, ap₂, subst, ◌∙◌}
+use mathlib.Core.Bool.{Bool, true, true≢false}
 use mathlib.Core.List.{List, [], ◌∷◌, ◌++◌, map, map-append}
-use Prim.Native.Nat.{ℕ, zero, suc, ◌+◌, ◌*◌, ◌-◌, ◌≤◌, ◌<◌}
+use Prim.Native.Nat.{ℕ, zero, suc, ◌+◌, ◌*◌, ◌≤◌, ◌<◌, min}
 use native.Mathlib.Numerals.{add-one}
 use native.Mathlib.Omega.{arith}
 use borrow.Author.Tests.{eq-eqb, ne_eqb}
-use lib.ListN.{length, get_or, take, drop, set, length-append, length-drop, drop_of_length-le}
-use lib.Seq.{length-take-le, take_all, take-suc-set, take-paste, paste}
+use lib.ListN.{length, get_or, take, drop, set, length-append}
+use lib.Seq.{take_all, take_at, drop_at, take-suc-set, take-paste, paste}
+use lib.Dec.{eqb}
+use Rattle.std.specs.List.{IsFirstMatchOrLen}
 use Rattle.names.specs.Names.{judge_of}
 use Rattle.names.specs.Features.{features_of, most_features}
 use Rattle.names.proofs.Laws.{length_features, size_most}
 use Rattle.laws.specs.Lists.{sum_of}
+use Rattle.laws.proofs.Lists.{length_nil}
 use Rattle.fields.specs.Layouts.{read_of, head_size}
 use Rattle.fields.proofs.Laws.{read_fits}
 use Rattle.fields.proofs.Layouts.{field_below, length_name, read_good}
@@ -22,10 +26,15 @@ use Rattle.index_writer.specs.Keys.{place_span, keys_of, keys_from, all_keys}
 use Rattle.index_writer.proofs.Keys.{keys_append, length_keys, keys_triples}
 use Rattle.index_writer.proofs.Entries.{length_entries}
 use Rattle.index_writer.proofs.Built.{fit_nil, fit_snoc, name_fit}
-use Rattle.lines.specs.Lines.{lines_of, line_length}
+use Rattle.lines.specs.Lines.{line_feed, lines_of, line_length}
 use Rattle.register.specs.Build.{id_in, name_of, next_from, next_id, judge_line, entry_of, Taken, take_lines, taken_of}
-use Rattle.register.specs.Steps.{KeysFit, Tables, Read}
-use Rattle.lines.proofs.Lines.{lines_nil, lines_at, line_some}
+use Rattle.register.specs.Steps.{KeysFit, Tables, Read, Heard, HeardIn}
+use Rattle.std.specs.Prelude.{Result, Ok, Err, MatchResult, is_ok}
+use Rattle.refusals.specs.declared.Refusal.{Refusal}
+use Rattle.refusals.specs.declared.LineRefusal.{LineRefusal}
+use Rattle.refusals.specs.Refusals.{refusal_number}
+use Rattle.frames.specs.declared.Name.{Name}
+use Rattle.lines.proofs.Lines.{lines_nil, is_feed, line_cut, lines_cut_at}
 use Rattle.register.proofs.Judging.{good_line}
 
 -- ---- the least id that may follow
@@ -74,7 +83,7 @@ pub id_most : (count next : ℕ) (line : List ℕ) → judge_line count next lin
 id_most count next line z =
     let f = (good_line count next line z).0 in
     let b = field_below name_frame line 255 (read_of name_frame line 255) refl 0 in
-    let e = ap (λ (r : Rattle.fields.specs.declared.Reading.Reading). get_or r.fields 0 0) (read_good name_frame line 255 f (read_fits name_frame line f).short) in
+    let e = ap (λ (r : Rattle.fields.specs.Layouts.Reading). get_or r.fields 0 0) (read_good name_frame line 255 f (read_fits name_frame line f).short) in
     omega arith
 
 pub entry_fit : (count next : ℕ) (line : List ℕ) → judge_line count next line ≡ 0 → EntryFit (entry_of line)
@@ -124,31 +133,30 @@ module _ (es : List Entry) (names keys : List ℕ) (n p : ℕ) (t : Tables es na
             ∙ sym one;
       }
 
--- ---- what has been reached at a place
+-- ---- what has been reached
 
-pub record Reached (register names keys : List ℕ) (n p next at : ℕ) : Type 0 where
+-- the names of the lines before the rest, and what the rest comes to
+pub record Reached (register rest names keys : List ℕ) (n p next : ℕ) : Type 0 where
   pub es : List Entry
   pub tables : Tables es names keys n p
   pub least : next ≡ next_id es
-  pub rest : take_lines es (lines_of (drop at register)) ≡ taken_of register
-  pub half : 2 * p ≤ at
-  pub within : at ≤ length register
+  pub comes : take_lines es (lines_of rest) ≡ taken_of register
+  pub half : 2 * p + length rest ≤ length register
 
-pub reached_nil : (register names keys : List ℕ) → Reached register names keys 0 0 0 0
+pub reached_nil : (register names keys : List ℕ) → Reached register register names keys 0 0 0
 unfolding taken_of next_from keys_from
 reached_nil register names keys =
     record {
       es = [];
       tables = record { fit = fit_nil; count = refl; words = refl; sum = refl; postings = refl };
       least = refl;
-      rest = refl;
+      comes = refl;
       half = omega arith;
-      within = omega arith;
     }
 
-pub reached_all : {register names keys : List ℕ} {n p next at : ℕ} → Reached register names keys n p next at → length register ≤ at → Read register names keys 0 0 n p
-reached_all {register} {names} {keys} {n} {p} {next} {at} r h =
-    let e : take_lines r.es [] ≡ taken_of register = ap (take_lines r.es) (sym (ap lines_of (drop_of_length-le register {i = at} h) ∙ lines_nil)) ∙ r.rest in
+pub reached_all : {register rest names keys : List ℕ} {n p next : ℕ} → Reached register rest names keys n p next → length rest ≡ 0 → Read register names keys 0 0 n p
+reached_all {register} {rest} {names} {keys} {n} {p} {next} r h =
+    let e : take_lines r.es [] ≡ taken_of register = ap (take_lines r.es) (sym (ap lines_of (length_nil rest h) ∙ lines_nil)) ∙ r.comes in
     let f = sym (take_none r.es) ∙ e in
     record {
       number = ap (λ (x : Taken). x.number) f;
@@ -158,29 +166,26 @@ reached_all {register} {names} {keys} {n} {p} {next} {at} r h =
 
 -- ---- one turn
 
--- the line from one place to another
-abbrev pub line_at : List ℕ → ℕ → ℕ → List ℕ
-line_at register at end = take (end - at) (drop at register)
+-- the first line of the rest, what is more, and the line's number
+pub record Turn (register rest names keys line more : List ℕ) (n p next number : ℕ) : Type 0 where
+  pub reach : Reached register rest names keys n p next
+  pub parts : rest ≡ line ++ more
+  pub stretch : length line ≡ line_length rest
+  pub some : 0 < length rest
+  pub judged : number ≡ judge_line n next line
 
--- the line at a place that was reached, where it ends, and its number
-pub record Turn (register names keys : List ℕ) (n p next at end number : ℕ) : Type 0 where
-  pub reach : Reached register names keys n p next at
-  pub more : at < length register
-  pub stretch : end ≡ at + line_length (drop at register)
-  pub bound : end ≤ length register
-  pub judged : number ≡ judge_line n next (line_at register at end)
+-- it is the first line where the library cut it
+pub turn_cut : {register rest names keys line more : List ℕ} {n p next number i : ℕ} → Reached register rest names keys n p next → rest ≡ line ++ more
+    → length line ≡ min (i + 1) (length rest) → IsFirstMatchOrLen is_feed rest i → 0 < length rest → number ≡ judge_line n next line
+    → Turn register rest names keys line more n p next number
+turn_cut {rest} {i} r e l f h j = record { reach = r; parts = e; stretch = l ∙ line_cut rest i f; some = h; judged = j }
 
-module _ {register names keys : List ℕ} {n p next at end number : ℕ} (t : Turn register names keys n p next at end number) where
-  turn_judged : number ≡ judge_line (length t.reach.es) (next_id t.reach.es) (line_at register at end)
-  turn_judged = t.judged ∙ ap₂ (λ (x y : ℕ). judge_line x y (line_at register at end)) t.reach.tables.count t.reach.least
+module _ {register rest names keys line more : List ℕ} {n p next number : ℕ} (t : Turn register rest names keys line more n p next number) where
+  turn_lines : lines_of rest ≡ line ∷ lines_of more
+  turn_lines = lines_cut_at rest line more t.parts t.stretch t.some
 
-  -- the place moves on
-  pub turn_less : length register - end < length register - at
-  turn_less =
-      let e = t.stretch in
-      let d = length-drop at register in
-      let some = line_some (drop at register) (omega arith) in
-      omega arith
+  turn_judged : number ≡ judge_line (length t.reach.es) (next_id t.reach.es) line
+  turn_judged = t.judged ∙ ap₂ (λ (x y : ℕ). judge_line x y line) t.reach.tables.count t.reach.least
 
   pub turn_few : n ≤ most_names
   turn_few =
@@ -192,8 +197,7 @@ module _ {register names keys : List ℕ} {n p next at end number : ℕ} (t : Tu
   pub turn_bad : (number ≡ 0 → ⊥) → (names₁ keys₁ : List ℕ) → Read register names₁ keys₁ number (n + 1) 0 0
   turn_bad b names₁ keys₁ =
       let r = t.reach in
-      let l = lines_at register at end t.more t.stretch in
-      let f = sym (take_bad r.es (line_at register at end) (lines_of (drop end register)) (λ q. b (turn_judged ∙ q))) ∙ ap (take_lines r.es) (sym l) ∙ r.rest in
+      let f = sym (take_bad r.es line (lines_of more) (λ q. b (turn_judged ∙ q))) ∙ ap (take_lines r.es) (sym turn_lines) ∙ r.comes in
       record {
         number = turn_judged ∙ ap (λ (x : Taken). x.number) f;
         line = ap (λ (x : ℕ). x + 1) r.tables.count ∙ ap (λ (x : Taken). x.line) f;
@@ -202,49 +206,69 @@ module _ {register names keys : List ℕ} {n p next at end number : ℕ} (t : Tu
 
   -- a good line
   module _ (z : number ≡ 0) where
-    turn_good : judge_line n (next_id t.reach.es) (line_at register at end) ≡ 0
-    turn_good = ap (λ (y : ℕ). judge_line n y (line_at register at end)) (sym t.reach.least) ∙ sym t.judged ∙ z
+    turn_good : judge_line n (next_id t.reach.es) line ≡ 0
+    turn_good = ap (λ (y : ℕ). judge_line n y line) (sym t.reach.least) ∙ sym t.judged ∙ z
 
-    pub turn_name : judge_of (name_of (line_at register at end)) ≡ 0
-    turn_name = (good_line n next (line_at register at end) (sym t.judged ∙ z)).1
+    pub turn_name : judge_of (name_of line) ≡ 0
+    turn_name = (good_line n next line (sym t.judged ∙ z)).1
 
-    pub turn_id : id_in (line_at register at end) ≤ largest_id
-    turn_id = id_most n next (line_at register at end) (sym t.judged ∙ z)
+    pub turn_id : id_in line ≤ largest_id
+    turn_id = id_most n next line (sym t.judged ∙ z)
 
-    turn_half : 2 * (p + length (features_of (name_of (line_at register at end)))) ≤ end
+    turn_half : 2 * (p + length (features_of (name_of line))) + length more ≤ length register
     turn_half =
-        let h = line_half n next (line_at register at end) (sym t.judged ∙ z) in
-        let b = t.bound in
-        let d = length-drop at register in
-        let k = length-take-le (end - at) (drop at register) (omega arith) in
-        let s = t.stretch in
+        let h = line_half n next line (sym t.judged ∙ z) in
+        let e = ap length t.parts ∙ length-append line more in
         let before = t.reach.half in
         omega arith
 
-    pub turn_room : (k : ℕ) → KeysFit (length register) k
-        → (n < most_names) × (p + length (features_of (name_of (line_at register at end))) ≤ k)
+    pub turn_room : (k : ℕ) → KeysFit (length register) k → (n < most_names) × (p + length (features_of (name_of line)) ≤ k)
     turn_room k fit =
-        let r = tables_room t.reach.es names keys n p t.reach.tables (line_at register at end) turn_good in
+        let r = tables_room t.reach.es names keys n p t.reach.tables line turn_good in
         let r1 = r.1 in
-        let m = size_most (name_of (line_at register at end)) in
+        let m = size_most (name_of line) in
         let h = turn_half in
-        let b = t.bound in
-        (r.0, fit (p + length (features_of (name_of (line_at register at end)))) (omega arith) (omega arith))
+        (r.0, fit (p + length (features_of (name_of line))) (omega arith) (omega arith))
 
-    pub turn_more : (names₁ keys₁ : List ℕ) (p₁ id₁ : ℕ) → n < length names → p + length (features_of (name_of (line_at register at end))) ≤ length keys
-        → id₁ ≡ id_in (line_at register at end)
-        → p₁ ≡ p + length (features_of (name_of (line_at register at end)))
-        → names₁ ≡ set names n (id_in (line_at register at end) * 256 + length (features_of (name_of (line_at register at end))))
-        → keys₁ ≡ paste keys p (map (λ (f : ℕ). f * place_span + n) (features_of (name_of (line_at register at end)))) (length (features_of (name_of (line_at register at end))))
-        → Reached register names₁ keys₁ (n + 1) p₁ (id₁ + 1) end
+    pub turn_more : (names₁ keys₁ : List ℕ) (p₁ id₁ : ℕ) → n < length names → p + length (features_of (name_of line)) ≤ length keys
+        → id₁ ≡ id_in line
+        → p₁ ≡ p + length (features_of (name_of line))
+        → names₁ ≡ set names n (id_in line * 256 + length (features_of (name_of line)))
+        → keys₁ ≡ paste keys p (map (λ (f : ℕ). f * place_span + n) (features_of (name_of line))) (length (features_of (name_of line)))
+        → Reached register more names₁ keys₁ (n + 1) p₁ (id₁ + 1)
     turn_more names₁ keys₁ p₁ id₁ hn hp ei ep en et =
         let r = t.reach in
-        let line = line_at register at end in
         record {
           es = r.es ++ (entry_of line ∷ []);
           tables = tables_snoc r.es names keys n p r.tables line turn_good names₁ keys₁ p₁ hn hp ep en et;
           least = ap (λ (x : ℕ). x + 1) ei ∙ sym (next_snoc 0 r.es (entry_of line));
-          rest = sym (take_good r.es line (lines_of (drop end register)) (sym turn_judged ∙ z)) ∙ ap (take_lines r.es) (sym (lines_at register at end t.more t.stretch)) ∙ r.rest;
+          comes = sym (take_good r.es line (lines_of more) (sym turn_judged ∙ z)) ∙ ap (take_lines r.es) (sym turn_lines) ∙ r.comes;
           half = (let h = turn_half in let e = ep in omega arith);
-          within = t.bound;
         }
+
+-- ---- what is judged, once a refusal has its line
+
+abbrev named : Name → Result Name LineRefusal
+named x = Ok x
+
+abbrev placed : LineRefusal → Result Name LineRefusal
+placed l = Err l
+
+name_or : Name → Result Name LineRefusal → Name
+name_or d (Ok x) = x
+name_or d (Err l) = d
+
+module _ (count next : ℕ) (line buffer : List ℕ) where
+  pub heard_ok : (r : Result Name Refusal) (Q : Refusal → Type 0) (x : Name) → true ≡ is_ok r → MatchResult r (λ y. named x ≡ named y) Q
+      → HeardIn count next line buffer r → Heard count next line buffer 0 x.id x.len
+  unfolding name_or
+  heard_ok (Ok y) Q x o m h = subst (λ (z : Name). Heard count next line buffer 0 z.id z.len) (sym (ap (name_or x) m)) h
+  heard_ok (Err e) Q x o m h = absurd (true≢false o)
+
+  pub heard_err : (r : Result Name Refusal) (Q : Refusal → Type 0) (l : LineRefusal) (k : ℕ) → MatchResult r (λ y. placed l ≡ named y) Q
+      → ((e : Refusal) → Q e → l ≡ record { refusal = e; line = k })
+      → HeardIn count next line buffer r → (refusal_number l.refusal ≡ judge_line count next line) × (l.line ≡ k)
+  heard_err (Ok y) Q l k m f h = absurd (true≢false (sym (ap is_ok m)))
+  heard_err (Err e) Q l k m f h =
+      let g = f e m in
+      (ap (λ (d : LineRefusal). refusal_number d.refusal) g ∙ h.number, ap (λ (d : LineRefusal). d.line) g)

@@ -1,8 +1,10 @@
 -- Building an index from a register: the judging of a line, the names of all lines, and what a build answers and leaves in the words.
 -- The order in which a line is judged is `line_cases` alone.
 -- Assumes nothing.
-use Rattle.std.specs.Prelude.{Bool, cond, not, List, [], ◌∷◌, ◌++◌, map, ℕ, ◌+◌, ◌*◌, length, get_or, take, replicate, eqb, leb, ltb}
+use Rattle.std.specs.Prelude.{Result, Ok, Err, Bool, cond, not, List, [], ◌∷◌, ◌++◌, map, ℕ, ◌+◌, ◌*◌, length, get_or, take, replicate, eqb, leb, ltb}
 use Rattle.laws.specs.Cases.{Case, case, first_case}
+use Rattle.refusals.specs.declared.LineRefusal.{LineRefusal}
+use Rattle.refusals.specs.Refusals.{refusal_number}
 use Rattle.names.specs.Names.{name_cases}
 use Rattle.names.specs.Features.{features_of}
 use Rattle.fields.specs.Layouts.{is_frame, fields_in, name_in}
@@ -12,7 +14,6 @@ use Rattle.index.specs.Good.{most_names, most_postings}
 use Rattle.index_writer.specs.Built.{Entry, words_of}
 use Rattle.index_writer.specs.Written.{blank, fits_in, pad_to}
 use Rattle.lines.specs.Lines.{lines_of, nth_line}
-use Rattle.register.specs.declared.Built.{Built}
 
 -- ---- one line
 
@@ -83,6 +84,16 @@ most_words = head_width + name_width * most_names + (row_width + 1) * most_posti
 -- whether the index of the names fits the room
 abbrev pub room_for : List Entry → ℕ → Bool
 room_for es room = fits_in room (words_of es)
+
+-- what a build answers: its number, and the place of the first bad line, from 1, or 0
+pub record Built : Type 0 where
+  pub number : ℕ
+  pub line : ℕ
+
+-- the answer of a build, set out: 0 and 0, or the number of the refusal and its line
+abbrev pub built_in : {A : Type 0} → Result A LineRefusal → Built
+built_in (Ok x) = record { number = 0; line = 0 }
+built_in (Err r) = record { number = refusal_number r.refusal; line = r.line }
 
 -- the answer of a build into so many words: the first bad line, then 8 and line 0 where the index does not fit, then 0 and 0
 unfoldable pub built_of : List ℕ → ℕ → Built

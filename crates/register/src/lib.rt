@@ -7,10 +7,13 @@ ghost use Rattle.names.specs.Names.{judge_of};
 ghost use Rattle.names.specs.Features.{features_of};
 ghost use Rattle.words.specs.Words.{size_room, feature_span};
 ghost use Rattle.fields.specs.Layouts.{longest_name};
-ghost use Rattle.index.specs.Good.{most_names, largest_id};
+ghost use Rattle.index.specs.Good.{most_names, most_postings, largest_id};
 ghost use Rattle.index_writer.specs.Keys.{place_span};
-ghost use Rattle.register.specs.Build.{built_of, words_after};
-ghost use Rattle.register.specs.Steps.{KeysFit, few_keys, Heard, Read};
+ghost use Rattle.register.specs.Build.{built_in, built_of, words_after};
+ghost use Rattle.register.specs.Steps.{KeysFit, HeardIn, ReadIn};
+
+use frames::Name;
+use refusals::{LineRefusal, Refusal};
 
 // How many words are room for the index of every register.
 pub const MOST_WORDS: usize = words::HEAD_WIDTH
@@ -20,66 +23,33 @@ pub const MOST_WORDS: usize = words::HEAD_WIDTH
 // A register of at most twice as many bytes has no more keys than this: a line has more than two bytes for each feature of its name.
 const FEW_KEYS: usize = 8192;
 
-// What a build answers: its number, and the place of the first bad line, from 1, or 0.
-#[derive(Clone, Copy)]
-pub struct Built {
-    pub number: u8,
-    pub line: u32,
-}
-
 // ---- one line
 
-// What judging a line answers: its number, and its id and the length of its name where that is 0.
-#[derive(Clone, Copy)]
-struct Judged {
-    number: u8,
-    id: u32,
-    len: usize,
-}
-
 // Judges a line after `count` names, whose id has to be at least `next`, and puts its name at the start of the buffer.
-fn judge_line(line: &[u8], name: &mut [u8], count: usize, next: u32) -> Judged
+fn judge_line(line: &[u8], name: &mut [u8], count: usize, next: u32) -> Result<Name, Refusal>
     requires { length name.old ≡ longest_name }
-    ensures { Heard count next line.now name.new result.number result.id result.len }
+    ensures { HeardIn count next line.now name.new result }
 {
-    let read = frames::read_name(line, name);
-    let id = read.id as u32;
-    let len = read.len;
-    if read.number != 0 {
-        return Judged {
-            number: read.number,
-            id,
-            len,
-        };
-    }
-    let number = names::judge(&name[..len]);
-    if number != 0 {
-        return Judged { number, id, len };
-    }
-    if id < next {
-        return Judged { number: 9, id, len };
+    let read = frames::read_name(line, name)?;
+    names::judge(&name[..read.len])?;
+    if u32::from(read.id) < next {
+        return Err(Refusal::TakenId);
     }
     if index::MOST_NAMES <= count {
-        return Judged {
-            number: 10,
-            id,
-            len,
-        };
+        return Err(Refusal::TooMany);
     }
-    Judged { number: 0, id, len }
+    Ok(read)
 }
 
 // ---- one name
 
-// Puts the keys of a name's features, the first `size` of `items`, into `keys`, from `at` on. The name stands at `place` among the names.
-fn put_keys(items: &[u64], size: usize, place: u64, keys: &mut [u64], at: usize)
-    requires { (size ≤ length items.now) × ((i : ℕ) → i < size → get_or items.now i 0 < feature_span) × (place < place_span) × (at + size ≤ length keys.old) }
-    ensures { keys.new ≡ paste keys.old at (map (λ (f : ℕ). f * place_span + place) items.now) size }
+// Puts the keys of a name's features into `keys`, from `at` on. The name stands at `place` among the names.
+fn put_keys(features: &[u64], place: u64, keys: &mut [u64], at: usize)
+    requires { ((i : ℕ) → i < length features.now → get_or features.now i 0 < feature_span) × (place < place_span) × (at + length features.now ≤ length keys.old) }
+    ensures { keys.new ≡ paste keys.old at (map (λ (f : ℕ). f * place_span + place) features.now) (length features.now) }
 {
-    let mut k = 0;
-    while k < size {
-        keys[at + k] = items[k] * index_writer::PLACE_SPAN + place;
-        k += 1;
+    for (k, feature) in features.iter().enumerate() {
+        keys[at + k] = *feature * index_writer::PLACE_SPAN + place;
     }
 }
 
@@ -91,55 +61,47 @@ fn add_name(name: &[u8], id: u32, names: &mut [u32], n: usize, keys: &mut [u64],
     let set = names::features_good(name);
     let len = set.len;
     names[n] = id * words::SIZE_ROOM + len as u32;
-    put_keys(&set.items, len, n as u64, keys, p);
+    put_keys(&set.items[..len], n as u64, keys, p);
     p + len
 }
 
 // ---- all lines
 
-// What the lines come to: the first bad one, or how many names and postings there are.
+// What good lines come to: how many names and postings there are.
 #[derive(Clone, Copy)]
 struct Taken {
-    number: u8,
-    line: u32,
     names: usize,
     postings: usize,
 }
 
 // Reads the lines until one is bad, and puts the words and the keys of their names into the tables.
-fn take_lines(register: &[u8], name: &mut [u8], names: &mut [u32], keys: &mut [u64]) -> Taken
+fn take_lines(
+    register: &[u8],
+    name: &mut [u8],
+    names: &mut [u32],
+    keys: &mut [u64],
+) -> Result<Taken, LineRefusal>
     requires { (length name.old ≡ longest_name) × (length names.old ≡ most_names) × KeysFit (length register.now) (length keys.old) }
-    ensures { Read register.now names.new keys.new result.number result.line result.names result.postings }
+    ensures { ReadIn register.now names.new keys.new result }
 {
     let mut n = 0;
     let mut p = 0;
-    let mut next: u32 = 0;
-    let mut at = 0;
-    while at < register.len() {
-        let end = lines::line_end(register, at);
-        let line = judge_line(&register[at..end], name, n, next);
-        if line.number != 0 {
-            let place = n as u32 + 1;
-            return Taken {
-                number: line.number,
-                line: place,
-                names: 0,
-                postings: 0,
-            };
-        }
-        let id = line.id;
-        let len = line.len;
-        p = add_name(&name[..len], id, names, n, keys, p);
+    let mut next = 0;
+    for bytes in register.split_inclusive(|b| *b == b'\n') {
+        let line = n as u32 + 1;
+        let read = judge_line(bytes, name, n, next).map_err(|refusal| LineRefusal {
+            refusal,
+            line,
+        })?;
+        let id = u32::from(read.id);
+        p = add_name(&name[..read.len], id, names, n, keys, p);
         n += 1;
         next = id + 1;
-        at = end;
     }
-    Taken {
-        number: 0,
-        line: 0,
+    Ok(Taken {
         names: n,
         postings: p,
-    }
+    })
 }
 
 // ---- the whole
@@ -152,55 +114,38 @@ fn build_with(
     keys: &mut [u64],
     ordered: &mut [u64],
     words: &mut [u32],
-) -> Built
+) -> Result<(), LineRefusal>
     requires { (length name.old ≡ longest_name) × (length names.old ≡ most_names) × KeysFit (length register.now) (length keys.old) × (length ordered.old ≡ length keys.old) }
-    ensures { (result ≡ built_of register.now (length words.old)) × (words.new ≡ words_after register.now words.old) }
+    ensures { (built_in result ≡ built_of register.now (length words.old)) × (words.new ≡ words_after register.now words.old) }
 {
-    let taken = take_lines(register, name, names, keys);
-    let number = taken.number;
-    if number != 0 {
-        index_writer::fill(words);
-        return Built {
-            number,
-            line: taken.line,
-        };
-    }
+    let taken = match take_lines(register, name, names, keys) {
+        Ok(taken) => taken,
+        Err(refusal) => {
+            index_writer::fill(words);
+            return Err(refusal);
+        }
+    };
     let n = taken.names;
     let p = taken.postings;
     ordering::order(&names[..n], &mut keys[..p], &mut ordered[..p]);
-    if index_writer::write_index(&names[..n], &ordered[..p], words) {
-        return Built { number: 0, line: 0 };
+    if !index_writer::write_index(&names[..n], &ordered[..p], words) {
+        return Err(LineRefusal {
+            refusal: Refusal::NoRoom,
+            line: 0,
+        });
     }
-    Built { number: 8, line: 0 }
+    Ok(())
 }
 
-// Builds the index of a register of so few bytes that it has few keys, with tables of that size: a table is set to 0 before it is used.
-fn build_few(register: &[u8], words: &mut [u32]) -> Built
-    requires { length register.now ≤ 2 * few_keys }
-    ensures { (result ≡ built_of register.now (length words.old)) × (words.new ≡ words_after register.now words.old) }
+// Builds the index of a register that has no more keys than KEYS, with tables of that size: a table is set to 0 before it is used.
+fn build_sized<const KEYS: usize>(register: &[u8], words: &mut [u32]) -> Result<(), LineRefusal>
+    requires { (KEYS ≤ most_postings) × KeysFit (length register.now) KEYS }
+    ensures { (built_in result ≡ built_of register.now (length words.old)) × (words.new ≡ words_after register.now words.old) }
 {
     let mut name = [0u8; fields::LONGEST_NAME];
     let mut names = [0u32; index::MOST_NAMES];
-    let mut keys = [0u64; FEW_KEYS];
-    let mut ordered = [0u64; FEW_KEYS];
-    build_with(
-        register,
-        &mut name,
-        &mut names,
-        &mut keys,
-        &mut ordered,
-        words,
-    )
-}
-
-// The same with tables for as many keys as any register has.
-fn build_many(register: &[u8], words: &mut [u32]) -> Built
-    ensures { (result ≡ built_of register.now (length words.old)) × (words.new ≡ words_after register.now words.old) }
-{
-    let mut name = [0u8; fields::LONGEST_NAME];
-    let mut names = [0u32; index::MOST_NAMES];
-    let mut keys = [0u64; index::MOST_POSTINGS];
-    let mut ordered = [0u64; index::MOST_POSTINGS];
+    let mut keys = [0u64; KEYS];
+    let mut ordered = [0u64; KEYS];
     build_with(
         register,
         &mut name,
@@ -212,11 +157,11 @@ fn build_many(register: &[u8], words: &mut [u32]) -> Built
 }
 
 // Builds the index of a register.
-pub fn build(register: &[u8], words: &mut [u32]) -> Built
-    ensures { (result ≡ built_of register.now (length words.old)) × (words.new ≡ words_after register.now words.old) }
+pub fn build(register: &[u8], words: &mut [u32]) -> Result<(), LineRefusal>
+    ensures { (built_in result ≡ built_of register.now (length words.old)) × (words.new ≡ words_after register.now words.old) }
 {
     if register.len() <= 2 * FEW_KEYS {
-        return build_few(register, words);
+        return build_sized::<FEW_KEYS>(register, words);
     }
-    build_many(register, words)
+    build_sized::<{ index::MOST_POSTINGS }>(register, words)
 }

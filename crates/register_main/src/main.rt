@@ -16,19 +16,15 @@ struct Case {
     length: usize,
     begun: bool,
     count: usize,
-    open: bool,
-    high: u8,
+    high: Option<u8>,
 }
 
-fn no_case() -> Case {
-    Case {
-        length: 0,
-        begun: false,
-        count: 0,
-        open: false,
-        high: 0,
-    }
-}
+const NO_CASE: Case = Case {
+    length: 0,
+    begun: false,
+    count: 0,
+    high: None,
+};
 
 // Room for the words.
 fn room() -> [u32; 131072]
@@ -44,96 +40,63 @@ fn page() -> [u8; 262144]
     [0; 262144]
 }
 
-// Sets every word to 2779096485.
-fn lend(words: &mut [u32]) {
-    let mut i = 0;
-    while i < words.len() {
-        words[i] = 2779096485;
-        i += 1;
-    }
-}
-
-// A number, with a space before it.
-fn put<P: Print>(rt: &P, n: u64) -> io::Result<()> {
-    print!(rt; " {n}")
-}
-
-fn put_words<P: Print>(rt: &P, words: &[u32]) -> io::Result<()> {
-    let mut i = 0;
-    while i < words.len() {
-        put(rt, words[i] as u64)?;
-        i += 1;
-    }
-    Ok(())
-}
-
 // Builds, and writes the answer.
 fn answer<P: Print>(rt: &P, register: &[u8], words: &mut [u32]) -> io::Result<()> {
-    lend(words);
-    let built = register::build(register, words);
-    print!(rt; "{}", built.number)?;
-    put(rt, built.line as u64)?;
-    put_words(rt, words)
+    words.fill(2779096485);
+    let (number, line) = match register::build(register, words) {
+        Ok(()) => (0, 0),
+        Err(refused) => (refused.refusal.number(), refused.line),
+    };
+    print!(rt; "{number} {line}")?;
+    for word in words {
+        print!(rt; " {}", *word)?;
+    }
+    Ok(())
 }
 
 // The end of a case.
 fn ended<P: Print>(rt: &P, bytes: &[u8], words: &mut [u32], case: Case) -> io::Result<()> {
     let count = case.count;
     let length = case.length;
-    if count <= bytes.len() {
-        if length <= words.len() {
-            answer(rt, &bytes[0..count], &mut words[0..length])?;
-        }
+    if count <= bytes.len() && length <= words.len() {
+        answer(rt, &bytes[..count], &mut words[..length])?;
     }
     Ok(())
 }
 
-// The value of a digit, 16 for what is none.
-fn value(b: u8) -> u8 {
-    if 48 <= b && b <= 57 {
-        return b - 48;
+// The value of a digit.
+fn value(b: u8) -> Option<u8> {
+    match b {
+        b'0'..=b'9' => Some(b - b'0'),
+        b'A'..=b'F' => Some(b - b'A' + 10),
+        _ => None,
     }
-    if 65 <= b && b <= 70 {
-        return b - 55;
-    }
-    16
 }
 
 // One more digit of the length, which is at most 1,000,000 then.
 fn longer(case: Case, d: u8) -> Case {
-    let length = (case.length as u64 % 100000) * 10 + d as u64;
     Case {
-        length: length as usize,
+        length: case.length % 100000 * 10 + usize::from(d),
         begun: false,
         count: 0,
-        open: false,
-        high: 0,
+        high: None,
     }
 }
 
 // One more digit of the register.
 fn digit(bytes: &mut [u8], case: Case, d: u8) -> Case {
-    let at = case.count;
-    if !case.open {
-        return Case {
-            length: case.length,
-            begun: true,
-            count: at,
-            open: true,
-            high: d,
-        };
+    let mut next = case;
+    match case.high {
+        None => next.high = Some(d),
+        Some(high) => {
+            if case.count < bytes.len() {
+                bytes[case.count] = high % 16 * 16 + d % 16;
+                next.count = case.count + 1;
+                next.high = None;
+            }
+        }
     }
-    if bytes.len() <= at {
-        return case;
-    }
-    bytes[at] = (case.high % 16) * 16 + d % 16;
-    Case {
-        length: case.length,
-        begun: true,
-        count: at + 1,
-        open: false,
-        high: 0,
-    }
+    next
 }
 
 // One byte of the input.
@@ -144,28 +107,24 @@ fn step<P: Print>(
     case: Case,
     b: u8,
 ) -> io::Result<Case> {
-    if b == 10 {
-        ended(rt, bytes, words, case)?;
-        println!(rt)?;
-        return Ok(no_case());
-    }
-    if b == 32 {
-        return Ok(Case {
+    match b {
+        b'\n' => {
+            ended(rt, bytes, words, case)?;
+            println!(rt)?;
+            Ok(NO_CASE)
+        }
+        b' ' => Ok(Case {
             length: case.length,
             begun: true,
             count: 0,
-            open: false,
-            high: 0,
-        });
+            high: None,
+        }),
+        _ => Ok(match value(b) {
+            None => case,
+            Some(d) if case.begun => digit(bytes, case, d),
+            Some(d) => longer(case, d),
+        }),
     }
-    let d = value(b);
-    if 15 < d {
-        return Ok(case);
-    }
-    if case.begun {
-        return Ok(digit(bytes, case, d));
-    }
-    Ok(longer(case, d))
 }
 
 // The bytes of a chunk.
@@ -177,10 +136,8 @@ fn chunk<P: Print>(
     input: &[u8],
 ) -> io::Result<Case> {
     let mut case = first;
-    let mut i: usize = 0;
-    while i < input.len() {
-        case = step(rt, bytes, words, case, input[i])?;
-        i += 1;
+    for b in input {
+        case = step(rt, bytes, words, case, *b)?;
     }
     Ok(case)
 }
@@ -189,19 +146,13 @@ fn main(rt: HostRuntime) -> io::Result<()> {
     let mut words = room();
     let mut bytes = page();
     let mut input = [0u8; 65536];
-    let mut case = no_case();
-    let mut left: u64 = 1000000000;
-    while 0 < left {
-        let read = streams::read_input(&mut rt.stdin(), &mut input);
-        if let Some(error) = read.failure {
-            return Err(error);
-        }
-        let got = read.len;
-        case = chunk(&rt, &mut bytes, &mut words, case, &input[0..got])?;
-        if got < 65536 {
+    let mut case = NO_CASE;
+    for _ in 0..1000000000u64 {
+        let got = streams::read_input(&mut rt.stdin(), &mut input)?;
+        case = chunk(&rt, &mut bytes, &mut words, case, &input[..got])?;
+        if got < input.len() {
             break;
         }
-        left -= 1;
     }
     Ok(())
 }

@@ -16,7 +16,7 @@ use Rattle.laws.proofs.Tests.{or_right}
 use Rattle.laws.proofs.Members.{or_cases, each_nil, each_cons}
 use Rattle.hex_digits.specs.Lines.{digit_of, place_in, value_of as digitValue, hex_of, hex_line, bytes_of}
 use Rattle.hex_digits.proofs.Lines.{last_feed}
-use Rattle.fields.specs.declared.Reading.{Reading}
+use Rattle.fields.specs.Layouts.{Reading}
 use Rattle.fields.specs.Layouts.{is_frame, name_in, line_of, read_of, accepted_as, refused_with}
 use Rattle.fields.proofs.Layouts.{frame_other, frame_well_formed}
 use Rattle.fields.proofs.Laws.{frame_line}

@@ -16,7 +16,7 @@ use Rattle.weeks.specs.Pairs.{pairs_of, id_in, week_in, sum_for, count_for, Colu
 use Rattle.importer.specs.declared.Settings.{Settings}
 use Rattle.importer.specs.declared.Outcome.{Outcome}
 use Rattle.importer.specs.declared.Outcome.TheVariants.{Unresolved}
-use Rattle.importer.specs.declared.Imported.{Imported}
+use Rattle.importer.specs.Import.{Imported}
 use Rattle.importer.specs.Import.{case_of, value_of, most_lines, outcome_of, Outcomes, outcome_room, outcomes_over, outcomes_in, entries_in, imported_of, outcomes_after, pairs_after}
 use Rattle.importer.specs.Steps.{Imports}
 use Rattle.importer.proofs.Whole.{imported_cases}

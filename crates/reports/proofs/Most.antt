@@ -20,7 +20,7 @@ use Rattle.weeks.specs.Pairs.{pair_in, once_of, as_columns, pairs_of, columns_of
 use Rattle.register.specs.Build.{built_of}
 use Rattle.answers.specs.Output.{register_of}
 use Rattle.importer.specs.declared.Settings.{Settings}
-use Rattle.importer.specs.declared.Imported.{Imported}
+use Rattle.importer.specs.Import.{Imported}
 use Rattle.importer.specs.Import.{line_cases, judge_line, Verdict, judged_from, most_lines, as_outcomes, outcomes_over, outcome_of, outcomes_in, entries_in, imported_of}
 use Rattle.reports.specs.Report.{most_input, index_words, longest_report, settings_line, log_of, index_of, settled, settings_in, refusal_line, whole_part, register_part, settings_part, log_part, answer_lines, import_lines, settled_lines, report_lines, report_of}
 use Rattle.importer.proofs.Judging.{judged_bad, judged_good, judged_none, lines_few}

@@ -8,36 +8,34 @@ use lib.ListN.{length, get_or, take, drop, replicate, length-drop, length-replic
 use lib.Seq.{drop-drop, take_all}
 use borrow.Author.Tests.{lt-ltb, le-ltb, eq-eqb, ne_eqb}
 use Rattle.lines.specs.Lines.{line_length, joined}
-use Rattle.fields.specs.declared.Reading.{Reading}
-use Rattle.frames.specs.declared.QueryRead.{QueryRead}
+use Rattle.fields.specs.Layouts.{Reading}
+use Rattle.std.specs.Prelude.{Ok, Err}
+use Rattle.refusals.specs.declared.Refusal.{Refusal}
+use Rattle.refusals.proofs.Refusals.{refused}
+use Rattle.frames.specs.declared.Query.{Query}
 use Rattle.frames.specs.Frames.{query_out}
-use Rattle.register.specs.declared.Built.{Built}
-use Rattle.register.specs.Build.{built_of, words_after}
+use Rattle.register.specs.Build.{Built, built_of, words_after}
 use Rattle.answers.specs.Output.{register_end, register_of}
-use Rattle.importer.specs.declared.Settings.{Settings}
 use Rattle.importer.specs.Import.{settings}
-use Rattle.reports.specs.Report.{most_input, index_words, settings_line, log_of, index_of, settled, settings_in, refusal_line, whole_part, register_part, settings_part, import_lines, settled_lines, report_lines, report_of}
+use Rattle.reports.specs.Report.{most_input, index_words, settings_line, log_of, index_of, settled, refusal_line, whole_part, register_part, settings_part, import_lines, settled_lines, report_lines, report_of}
 
 alone : (l : List ℕ) → l ≡ joined (l ∷ [])
 alone l = unfold joined in (sym (append-nil l))
 
 -- ---- the settings line
 
-module _ (line log words : List ℕ) (r : QueryRead) (read : query_out r ≡ settled line) where
-  number_read : r.number ≡ (settled line).number
-  number_read = ap (λ (x : Reading). x.number) read
-
-  pub settings_bad : (r.number ≡ 0 → ⊥) → refusal_line settings_part 11 1 ≡ joined (settled_lines line log words)
+module _ (line log words : List ℕ) where
+  pub settings_bad : (r : Refusal) → query_out (Err r) ≡ settled line → refusal_line settings_part 11 1 ≡ joined (settled_lines line log words)
   unfolding settled_lines
-  settings_bad n = rw (ne_eqb (settled line).number 0 (λ z. n (number_read ∙ z))) (alone (refusal_line settings_part 11 1))
+  settings_bad r e =
+      rw (ne_eqb (settled line).number 0 (λ z. refused r (ap (λ (x : Reading). x.number) e ∙ z))) (alone (refusal_line settings_part 11 1))
 
-  as_read : settings r.measure r.p r.q r.allowance ≡ settings_in line
-  as_read = ap (λ (x : Reading). settings (get_or x.fields 0 0) (get_or x.fields 1 0) (get_or x.fields 2 0) (get_or x.fields 3 0)) read
-
-  pub settings_good : r.number ≡ 0
+  pub settings_good : (r : Query) → query_out (Ok r) ≡ settled line
       → joined (import_lines log words (settings r.measure r.p r.q r.allowance)) ≡ joined (settled_lines line log words)
   unfolding settled_lines
-  settings_good z = rw (eq-eqb (settled line).number 0 (sym number_read ∙ z)) (ap (λ (x : Settings). joined (import_lines log words x)) as_read)
+  settings_good r e =
+      rw (eq-eqb (settled line).number 0 (sym (ap (λ (x : Reading). x.number) e)))
+      (ap (λ (x : Reading). joined (import_lines log words (settings (get_or x.fields 0 0) (get_or x.fields 1 0) (get_or x.fields 2 0) (get_or x.fields 3 0)))) e)
 
 -- ---- the whole
 

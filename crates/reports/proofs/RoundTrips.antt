@@ -26,13 +26,13 @@ use Rattle.fields.specs.Layouts.{is_frame}
 use Rattle.log_frames.specs.Frames.{log_frame}
 use Rattle.words.specs.Words.{name_id}
 use Rattle.index.proofs.Laws.{good_name_within}
-use Rattle.register.specs.declared.Built.{Built}
+use Rattle.register.specs.Build.{Built}
 use Rattle.register.specs.Build.{judge_line, judge_nth, taken_of, room_for, entries_of as names_in, built_of}
 use Rattle.register.proofs.Judging.{good_line}
 use Rattle.register.proofs.First.{none_bad, first_bad_built}
 use Rattle.search.specs.Answers.{number_in, places_given}
-use Rattle.search.specs.declared.Answer.{Answer}
-use Rattle.search.specs.declared.Answer.TheVariants.{Found, Refused as SearchRefused}
+use Rattle.search.specs.Answers.{Answer}
+use Rattle.search.specs.Answers.{Found, Refused as SearchRefused}
 use Rattle.search.proofs.Outcomes.{answered, given_found}
 use Rattle.search.proofs.Listed.{answer_place}
 use Rattle.answers.specs.Output.{register_of}
@@ -42,7 +42,7 @@ use Rattle.statements.proofs.LogFrames.{log_frames}
 use Rattle.weeks.specs.Pairs.{pair_in, id_in, week_in, reading_in as reading_of, present, pairs_of, amount, tally, sum_for, count_for}
 use Rattle.weeks.proofs.Laws.{member_pairs}
 use Rattle.importer.specs.declared.Settings.{Settings}
-use Rattle.importer.specs.declared.Imported.{Imported}
+use Rattle.importer.specs.Import.{Imported}
 use Rattle.importer.specs.declared.Outcome.{Outcome}
 use Rattle.importer.specs.declared.Outcome.TheVariants.{Belongs, Unresolved, Ambiguous, Refused}
 use Rattle.importer.specs.Import.{day_in, reading_in, typed_in, row_room, outcome_from, answer_to, listed_for, outcome_of, case_of, value_of, entry_from, entry_in, entries_of, most_lines, line_cases as logCases, judge_line as judgeLog, Verdict, judged_from, verdict_on, outcomes_in, entries_in, imported_of}

@@ -12,9 +12,13 @@ use Rattle.lines.specs.Lines.{joined}
 use Rattle.lines.proofs.Evenly.{length_texts}
 use Rattle.hex_digits.specs.Lines.{hex_of, hex_line}
 use Rattle.hex_digits.specs.Numbers.{bytes_for}
-use Rattle.fields.specs.Layouts.{field_bytes, name_bytes, line_of, written_of, out_of}
+use Rattle.std.specs.Prelude.{Result, Ok, Err, IsOk}
+use Rattle.refusals.specs.declared.Refusal.{Refusal}
+use Rattle.refusals.proofs.Refusals.{refused}
+use Rattle.fields.specs.declared.Layout.{Layout}
+use Rattle.fields.specs.Layouts.{Written, field_bytes, name_bytes, line_of, written_in, written_of, out_of}
 use Rattle.fields.specs.Fitted.{fitting_of, fitted_of}
-use Rattle.fields.proofs.Fitted.{fitted_all, written_plain, out_plain, out_exact, put_behind}
+use Rattle.fields.proofs.Fitted.{fitting_whole, fitted_all, written_plain, out_plain, out_exact, put_behind}
 use Rattle.log_frames.specs.Frames.{outcome_frame, pair_frame, import_end_frame, import_refusal_frame, outcome_line_length, pair_line_length, import_end_line_length, import_refusal_line_length}
 use Rattle.weeks.specs.Pairs.{Columns}
 use Rattle.importer.specs.Import.{Outcomes}
@@ -100,6 +104,19 @@ pair_exact id week sum count out e =
 pub end_exact : (outcomes pairs : ℕ) (out : List ℕ) → length out ≡ import_end_line_length → out_of import_end_frame (outcomes ∷ pairs ∷ []) [] out ≡ end_line outcomes pairs
 end_exact outcomes pairs out e = out_exact import_end_frame (outcomes ∷ pairs ∷ []) out (length_end outcomes pairs ∙ sym e)
 
+-- a part of a buffer is as long as it says
+pub part_length : (at n : ℕ) (out : List ℕ) → at + n ≤ length out → length (take ((at + n) - at) (drop at out)) ≡ n
+part_length at n out h =
+    let d = length-drop at out in
+    let t = length-take-le ((at + n) - at) (drop at out) (omega arith) in
+    omega arith
+
+-- a line that fits is written
+pub line_written : (y : Layout) (f : List ℕ) (room : ℕ) (r : Result ℕ Refusal) → written_in r ≡ written_of y f [] room → length (line_of y f []) ≤ room → IsOk r
+line_written y f room (Ok n) e h = refl
+line_written y f room (Err r) e h =
+    absurd (refused r (ap (λ (x : Written). x.number) (e ∙ written_plain y f room ∙ fitting_whole (line_of y f []) room h)))
+
 -- ---- a refusal
 
 pub refusal_written : (part number line room : ℕ)
@@ -129,6 +146,23 @@ module _ (n m : ℕ) (o : Outcomes) (c : Columns) (out : List ℕ) where
       ap (λ (t : List ℕ). put_mid (outcome_line_length * n) ((outcome_line_length * n + pair_line_length * m) - outcome_line_length * n) (t ++ drop (outcome_line_length * n) out) second) p
       ∙ put_behind (joined (tabulate (outcome_at o) n)) out second (joined (tabulate (pair_at c) m)) (outcome_line_length * n) ((outcome_line_length * n + pair_line_length * m) - outcome_line_length * n) (pair_line_length * m)
       (length_outcomes o n) (omega arith) q
+
+  -- the end has its room
+  pub end_room : outcome_line_length * n + pair_line_length * m + import_end_line_length ≤ length out → (first second : List ℕ)
+      → first ≡ joined (tabulate (outcome_at o) n) → second ≡ joined (tabulate (pair_at c) m)
+      → let b = outcome_line_length * n + pair_line_length * m in
+      let before = put_mid (outcome_line_length * n) (b - outcome_line_length * n) (first ++ drop (outcome_line_length * n) out) second in
+      length (take ((b + import_end_line_length) - b) (drop b before)) ≡ import_end_line_length
+  unfolding outcomes pairs
+  end_room h first second p q =
+      let b = outcome_line_length * n + pair_line_length * m in
+      let t = ap length (two first second p q) in
+      let x = length-append (joined (tabulate (outcome_at o) n)) (joined (tabulate (pair_at c) m)) in
+      let y = length-append (joined (tabulate (outcome_at o) n) ++ joined (tabulate (pair_at c) m)) (drop b out) in
+      let d = length_outcomes o n in
+      let e = length_pairs c m in
+      let k = length-drop b out in
+      part_length b import_end_line_length (put_mid (outcome_line_length * n) (b - outcome_line_length * n) (first ++ drop (outcome_line_length * n) out) second) (omega arith)
 
   pub tables_put : outcome_line_length * n + pair_line_length * m + import_end_line_length ≤ length out → (first second third : List ℕ)
       → first ≡ joined (tabulate (outcome_at o) n) → second ≡ joined (tabulate (pair_at c) m)

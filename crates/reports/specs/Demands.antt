@@ -12,7 +12,7 @@ use Rattle.weeks.specs.Pairs.{pairs_of}
 use Rattle.register.specs.Build.{built_of}
 use Rattle.answers.specs.Output.{register_of}
 use Rattle.statements.specs.Demands.{Accepted}
-use Rattle.importer.specs.declared.Imported.{Imported}
+use Rattle.importer.specs.Import.{Imported}
 use Rattle.importer.specs.declared.Settings.{Settings}
 use Rattle.importer.specs.Import.{most_lines, outcomes_in, entries_in, imported_of}
 use Rattle.reports.specs.Report.{most_input, index_words, settings_line, log_of, index_of, settled, settings_in, outcome_line, pair_line, end_line, refusal_line, whole_part, register_part, settings_part, log_part, report_of}

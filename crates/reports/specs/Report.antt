@@ -3,8 +3,7 @@
 -- Assumes nothing.
 use Rattle.std.specs.Prelude.{cond, List, [], ◌∷◌, ◌++◌, map, ℕ, ◌+◌, ◌*◌, length, get_or, take, drop, replicate, eqb, ltb}
 use Rattle.lines.specs.Lines.{line_length, joined}
-use Rattle.fields.specs.declared.Reading.{Reading}
-use Rattle.fields.specs.Layouts.{line_of, read_of}
+use Rattle.fields.specs.Layouts.{Reading, line_of, read_of}
 use Rattle.frames.specs.Frames.{query_frame}
 use Rattle.log_frames.specs.Frames.{outcome_frame, pair_frame, import_end_frame, import_refusal_frame, outcome_line_length, pair_line_length, import_end_line_length}
 use Rattle.weeks.specs.Pairs.{id_in, week_in, pairs_of, sum_for, count_for}
@@ -12,6 +11,8 @@ use Rattle.index.specs.Good.{most_names}
 use Rattle.register.specs.Build.{most_words, built_of, words_after}
 use Rattle.answers.specs.Output.{register_end, register_of}
 use Rattle.importer.specs.declared.Settings.{Settings}
+use Rattle.reports.specs.declared.Part.{Part}
+use Rattle.reports.specs.declared.Part.TheVariants.{Whole, Register, Settings as SettingsLine, Log}
 use Rattle.importer.specs.declared.Outcome.{Outcome}
 use Rattle.importer.specs.Import.{settings, most_lines, case_of, value_of, outcomes_in, entries_in, imported_of}
 
@@ -85,6 +86,12 @@ settings_part = 2
 
 abbrev pub log_part : ℕ
 log_part = 3
+
+abbrev pub part_number : Part → ℕ
+part_number Whole = whole_part
+part_number Register = register_part
+part_number SettingsLine = settings_part
+part_number Log = log_part
 
 -- the lines of an import that is answered: its outcomes, its pairs, and the end with how many of each
 unfoldable pub answer_lines : List Outcome → List ℕ → List (List ℕ)

@@ -5,14 +5,16 @@
 ghost use Rattle.std.specs.Prelude.{◌≡◌, ◌++◌, [], ◌∷◌, ◌+◌, ◌*◌, ◌≤◌, ◌<◌, length, take, drop};
 ghost use Rattle.laws.specs.Lists.{tabulate};
 ghost use Rattle.lines.specs.Lines.{joined};
+ghost use Rattle.refusals.specs.Refusals.{refusal_number};
+ghost use Rattle.fields.specs.Layouts.{written_in};
 ghost use Rattle.fields.specs.Fitted.{fitting_of, fitted_of};
 ghost use Rattle.log_frames.specs.Frames.{outcome_line_length, pair_line_length};
 ghost use Rattle.weeks.specs.Pairs.{as_columns, room_of};
 ghost use Rattle.importer.specs.Import.{as_outcomes, outcome_room, settings, most_lines};
-ghost use Rattle.reports.specs.Report.{refusal_line, import_lines, settled_lines, report_of};
+ghost use Rattle.reports.specs.Report.{part_number, refusal_line, import_lines, settled_lines, report_of};
 ghost use Rattle.reports.specs.Tables.{outcome_text, outcome_at, pair_text, pair_at, tables_text};
 
-use fields::Written;
+use refusals::{LineRefusal, Refusal};
 
 // The most bytes of an input: 256 4E lines and 1,024 4C lines with the longest names, and a settings line.
 pub const MOST_INPUT: usize = 519 * index::MOST_NAMES + 23 + 523 * importer::MOST_LINES;
@@ -25,14 +27,23 @@ pub const LONGEST_REPORT: usize = log_frames::OUTCOME_LENGTH * importer::MOST_LI
     + log_frames::PAIR_LENGTH * importer::MOST_LINES
     + log_frames::IMPORT_END_LENGTH;
 
-// The parts of an input, as a refusal names them.
-const WHOLE: u8 = 0;
+// The parts of an input, each with the number by which a refusal names it.
+#[derive(Clone, Copy)]
+enum Part {
+    Whole = 0,
+    Register = 1,
+    Settings = 2,
+    Log = 3,
+}
 
-const REGISTER: u8 = 1;
-
-const SETTINGS: u8 = 2;
-
-const LOG: u8 = 3;
+impl Part {
+    // The number of a part.
+    fn number(self) -> u8
+        ensures { result ≡ part_number self }
+    {
+        self as u8
+    }
+}
 
 // ---- the lines of an import
 
@@ -46,7 +57,8 @@ fn put_outcome(case: u32, value: u32, out: &mut [u8], k: usize)
         &mut out[at..at + log_frames::OUTCOME_LENGTH],
         (case % 256) as u8,
         (value % 65536) as u16,
-    );
+    )
+    .unwrap();
 }
 
 // Writes the lines of the first n outcomes.
@@ -54,10 +66,8 @@ fn put_outcomes(cases: &[u32], values: &[u32], n: usize, out: &mut [u8])
     requires { (n ≤ most_lines) × (n ≤ outcome_room (as_outcomes cases.now values.now)) × (length out.old ≡ outcome_line_length * n) }
     ensures { out.new ≡ joined (tabulate (outcome_at (as_outcomes cases.now values.now)) n) }
 {
-    let mut k: usize = 0;
-    while k < n {
+    for k in 0..n {
         put_outcome(cases[k], values[k], out, k);
-        k += 1;
     }
 }
 
@@ -73,7 +83,8 @@ fn put_pair(id: u32, week: u32, sum: u32, count: u32, out: &mut [u8], k: usize)
         (week % 65536) as u16,
         sum,
         (count % 65536) as u16,
-    );
+    )
+    .unwrap();
 }
 
 // Writes the lines of the first n pairs.
@@ -81,10 +92,8 @@ fn put_pairs(ids: &[u32], weeks: &[u32], sums: &[u32], counts: &[u32], n: usize,
     requires { (n ≤ most_lines) × (n ≤ room_of (as_columns ids.now weeks.now sums.now counts.now)) × (length out.old ≡ pair_line_length * n) }
     ensures { out.new ≡ joined (tabulate (pair_at (as_columns ids.now weeks.now sums.now counts.now)) n) }
 {
-    let mut k: usize = 0;
-    while k < n {
+    for k in 0..n {
         put_pair(ids[k], weeks[k], sums[k], counts[k], out, k);
-        k += 1;
     }
 }
 
@@ -99,32 +108,31 @@ fn put_tables(
     sums: &[u32],
     counts: &[u32],
     out: &mut [u8],
-) -> Written
+) -> Result<usize, Refusal>
     requires { (n ≤ most_lines) × (n ≤ outcome_room (as_outcomes cases.now values.now)) × (m ≤ most_lines) × (m ≤ room_of (as_columns ids.now weeks.now sums.now counts.now)) }
-    ensures { (result ≡ fitting_of (tables_text n m (as_outcomes cases.now values.now) (as_columns ids.now weeks.now sums.now counts.now)) (length out.old)) × (out.new ≡ fitted_of (tables_text n m (as_outcomes cases.now values.now) (as_columns ids.now weeks.now sums.now counts.now)) out.old) }
+    ensures { (written_in result ≡ fitting_of (tables_text n m (as_outcomes cases.now values.now) (as_columns ids.now weeks.now sums.now counts.now)) (length out.old)) × (out.new ≡ fitted_of (tables_text n m (as_outcomes cases.now values.now) (as_columns ids.now weeks.now sums.now counts.now)) out.old) }
 {
     let first = log_frames::OUTCOME_LENGTH * n;
     let second = first + log_frames::PAIR_LENGTH * m;
     let total = second + log_frames::IMPORT_END_LENGTH;
     if out.len() < total {
-        return Written { number: 8, len: 0 };
+        return Err(Refusal::NoRoom);
     }
     put_outcomes(cases, values, n, &mut out[..first]);
     put_pairs(ids, weeks, sums, counts, m, &mut out[first..second]);
-    log_frames::write_import_end(&mut out[second..total], n as u16, m as u16);
-    Written {
-        number: 0,
-        len: total,
-    }
+    log_frames::write_import_end(&mut out[second..total], n as u16, m as u16).unwrap();
+    Ok(total)
 }
 
 // ---- the parts of an input
 
-// Writes a refusal, where it fits.
-fn refuse(part: u8, number: u8, line: u32, out: &mut [u8]) -> Written
-    ensures { (result ≡ fitting_of (refusal_line part number line) (length out.old)) × (out.new ≡ fitted_of (refusal_line part number line) out.old) }
+// Writes a refusal of a part, where it fits.
+fn refuse(part: Part, refused: LineRefusal, out: &mut [u8]) -> Result<usize, Refusal>
+    ensures { (written_in result ≡ fitting_of (refusal_line (part_number part) (refusal_number refused.refusal) refused.line) (length out.old)) × (out.new ≡ fitted_of (refusal_line (part_number part) (refusal_number refused.refusal) refused.line) out.old) }
 {
-    log_frames::write_import_refusal(out, part, number, (line % 65536) as u16)
+    let number = refused.refusal.number();
+    let line = (refused.line % 65536) as u16;
+    log_frames::write_import_refusal(out, part.number(), number, line)
 }
 
 // Imports the log, and writes its lines, where they fit.
@@ -136,8 +144,8 @@ fn report_log(
     allowance: u32,
     words: &[u32],
     out: &mut [u8],
-) -> Written
-    ensures { (result ≡ fitting_of (joined (import_lines log.now words.now (settings measure p q allowance))) (length out.old)) × (out.new ≡ fitted_of (joined (import_lines log.now words.now (settings measure p q allowance))) out.old) }
+) -> Result<usize, Refusal>
+    ensures { (written_in result ≡ fitting_of (joined (import_lines log.now words.now (settings measure p q allowance))) (length out.old)) × (out.new ≡ fitted_of (joined (import_lines log.now words.now (settings measure p q allowance))) out.old) }
 {
     let mut cases = [0u32; importer::MOST_LINES];
     let mut values = [0u32; importer::MOST_LINES];
@@ -145,7 +153,7 @@ fn report_log(
     let mut weeks = [0u32; importer::MOST_LINES];
     let mut sums = [0u32; importer::MOST_LINES];
     let mut counts = [0u32; importer::MOST_LINES];
-    let imported = importer::import(
+    match importer::import(
         log,
         measure,
         p,
@@ -158,25 +166,28 @@ fn report_log(
         &mut weeks,
         &mut sums,
         &mut counts,
-    );
-    let number = imported.number;
-    if number != 0 {
-        return refuse(LOG, number, imported.line, out);
+    ) {
+        Ok(imported) => {
+            let n = imported.lines as usize;
+            let m = imported.pairs as usize;
+            put_tables(n, m, &cases, &values, &ids, &weeks, &sums, &counts, out)
+        }
+        Err(refused) => refuse(Part::Log, refused, out),
     }
-    let n = imported.lines as usize;
-    let m = imported.pairs as usize;
-    put_tables(n, m, &cases, &values, &ids, &weeks, &sums, &counts, out)
 }
 
 // Reads the settings line, and goes on to the log.
-fn report_settled(line: &[u8], log: &[u8], words: &[u32], out: &mut [u8]) -> Written
-    ensures { (result ≡ fitting_of (joined (settled_lines line.now log.now words.now)) (length out.old)) × (out.new ≡ fitted_of (joined (settled_lines line.now log.now words.now)) out.old) }
+fn report_settled(line: &[u8], log: &[u8], words: &[u32], out: &mut [u8]) -> Result<usize, Refusal>
+    ensures { (written_in result ≡ fitting_of (joined (settled_lines line.now log.now words.now)) (length out.old)) × (out.new ≡ fitted_of (joined (settled_lines line.now log.now words.now)) out.old) }
 {
     let mut name = [0u8; 0];
-    let read = frames::read_query(line, &mut name);
-    if read.number != 0 {
-        return refuse(SETTINGS, 11, 1, out);
-    }
+    let Ok(read) = frames::read_query(line, &mut name) else {
+        let refused = LineRefusal {
+            refusal: Refusal::Malformed,
+            line: 1,
+        };
+        return refuse(Part::Settings, refused, out);
+    };
     report_log(
         log,
         read.measure,
@@ -189,19 +200,21 @@ fn report_settled(line: &[u8], log: &[u8], words: &[u32], out: &mut [u8]) -> Wri
 }
 
 // Writes all that the importer makes of an input, where it fits.
-pub fn report(input: &[u8], out: &mut [u8]) -> Written
-    ensures value { result ≡ fitting_of (report_of input.now) (length out.old) }
+pub fn report(input: &[u8], out: &mut [u8]) -> Result<usize, Refusal>
+    ensures value { written_in result ≡ fitting_of (report_of input.now) (length out.old) }
     ensures out_after { out.new ≡ fitted_of (report_of input.now) out.old }
 {
     if MOST_INPUT < input.len() {
-        return refuse(WHOLE, 8, 0, out);
+        let refused = LineRefusal {
+            refusal: Refusal::NoRoom,
+            line: 0,
+        };
+        return refuse(Part::Whole, refused, out);
     }
     let mut words = [0u32; INDEX_WORDS];
     let at = answers::register_end(input);
-    let built = register::build(&input[..at], &mut words);
-    let number = built.number;
-    if number != 0 {
-        return refuse(REGISTER, number, built.line, out);
+    if let Err(refused) = register::build(&input[..at], &mut words) {
+        return refuse(Part::Register, refused, out);
     }
     let end = lines::line_end(input, at);
     report_settled(&input[at..end], &input[end..], &words, out)

@@ -21,11 +21,9 @@ use Rattle.words.specs.Words.{name_id, name_size}
 use Rattle.index.specs.Good.{most_names, good_of}
 use Rattle.index.proofs.Laws.{good_names_most}
 use Rattle.sizes.specs.Method.{shared_with, touches_of, answers_of}
-use Rattle.search.specs.Answers.{rows_in, refusal_of, search_good_of, search_of, given_by, Columns, room_of, least_for, columns_of, columns_over, places_given, Searched}
+use Rattle.search.specs.Answers.{rows_in, refusal_of, search_good_of, search_of, given_by, Columns, room_of, least_for, columns_of, columns_over, places_given, Searched, Answer, Found, Refused}
 use Rattle.search.proofs.Outcomes.{admitted}
 use Rattle.search.proofs.Listed.{answers_most}
-use Rattle.search.specs.declared.Answer.{Answer}
-use Rattle.search.specs.declared.Answer.TheVariants.{Found, Refused}
 use Rattle.rows.specs.Rows.{row_of, records_of, row_across, Filled}
 use Rattle.rows.proofs.Lists.{no_row}
 

@@ -10,8 +10,7 @@ use lib.Seq.{sets, sets-eq, take_at, drop-append-add, drop-drop, get_or-append-a
 use Rattle.laws.specs.Lists.{tabulate}
 use Rattle.laws.proofs.Lists.{length_tabulate}
 use Rattle.laws.proofs.Images.{tabulate_of}
-use Rattle.search.specs.Answers.{rows_in, over}
-use Rattle.search.specs.declared.Answer.{Answer}
+use Rattle.search.specs.Answers.{rows_in, over, Answer}
 use Rattle.rows.specs.declared.Row.{Row}
 use Rattle.rows.specs.Rows.{row_cells, cells_in, cells_of, row_in, Filled}
 use Rattle.rows.proofs.Lists.{no_row}

@@ -7,8 +7,7 @@ use Rattle.names.specs.Features.{features_of}
 use Rattle.words.specs.Words.{name_id, name_size}
 use Rattle.index.specs.Good.{most_names}
 use Rattle.sizes.specs.Method.{shared_with}
-use Rattle.search.specs.Answers.{rows_in, search_of, Columns, least_for, places_given}
-use Rattle.search.specs.declared.Answer.{Answer}
+use Rattle.search.specs.Answers.{rows_in, search_of, Columns, least_for, places_given, Answer}
 use Rattle.rows.specs.declared.Row.{Row}
 
 -- ---- rows as the rule has them

@@ -6,7 +6,7 @@
 ghost use Rattle.std.specs.Prelude.{◌≡◌, ◌++◌, ◌+◌, ◌*◌, ◌≤◌, length, drop};
 ghost use Rattle.laws.specs.Lists.{tabulate};
 ghost use Rattle.index.specs.Good.{most_names};
-ghost use Rattle.search.specs.Answers.{search_of, rows_in, as_columns, over};
+ghost use Rattle.search.specs.Answers.{answer_in, search_of, rows_in, as_columns, over};
 ghost use Rattle.rows.specs.Rows.{rows_after, row_cells, row_in, row_across, cells_of, Filled};
 
 use search::Answer;
@@ -27,19 +27,11 @@ pub const ROW_CELLS: usize = 4;
 
 // How many rows an answer gives; none where it is refused.
 fn rows_in(answer: Answer) -> usize
-    ensures { result ≡ rows_in answer }
+    ensures { result ≡ rows_in (answer_in answer) }
 {
     match answer {
-        Answer::Found {
-            rows,
-            touches: _,
-            p: _,
-            q: _,
-        } => rows as usize,
-        Answer::Refused {
-            number: _,
-            touches: _,
-        } => 0,
+        Ok(found) => found.rows as usize,
+        Err(_) => 0,
     }
 }
 
@@ -58,9 +50,9 @@ fn fill_columns(
     least: &mut [u32],
 ) -> Answer
     requires { (length ids.old ≡ most_names) × (length shared.old ≡ most_names) × (length sizes.old ≡ most_names) × (length least.old ≡ most_names) }
-    ensures { Filled query.now measure p q allowance words.now room result (row_across (as_columns ids.new shared.new sizes.new least.new)) }
+    ensures { Filled query.now measure p q allowance words.now room (answer_in result) (row_across (as_columns ids.new shared.new sizes.new least.new)) }
 {
-    let n = search::smaller(room, index::MOST_NAMES);
+    let n = room.min(index::MOST_NAMES);
     search::search(
         query,
         measure,
@@ -80,14 +72,12 @@ fn put_cells(ids: &[u32], shared: &[u32], sizes: &[u32], least: &[u32], n: usize
     requires { (n ≤ length ids.now) × (n ≤ length shared.now) × (n ≤ length sizes.now) × (n ≤ length least.now) × (row_cells * n ≤ length cells.old) }
     ensures { cells.new ≡ over (cells_of (tabulate (row_across (as_columns ids.now shared.now sizes.now least.now)) n)) cells.old }
 {
-    let mut i = 0;
-    while i < n {
+    for i in 0..n {
         let at = ROW_CELLS * i;
         cells[at] = ids[i];
         cells[at + 1] = shared[i];
         cells[at + 2] = sizes[i];
         cells[at + 3] = least[i];
-        i += 1;
     }
 }
 
@@ -103,7 +93,7 @@ fn find_rows(
     cells: &mut [u32],
 ) -> Answer
     requires { length cells.old ≡ row_cells * most_names }
-    ensures { Filled query.now measure p q allowance words.now room result (row_in cells.new) }
+    ensures { Filled query.now measure p q allowance words.now room (answer_in result) (row_in cells.new) }
 {
     let mut ids = [0u32; index::MOST_NAMES];
     let mut shared = [0u32; index::MOST_NAMES];
@@ -145,11 +135,8 @@ fn put_rows(cells: &[u32], n: usize, rows: &mut [Row])
     requires { (row_cells * n ≤ length cells.now) × (n ≤ length rows.old) }
     ensures { rows.new ≡ tabulate (row_in cells.now) n ++ drop n rows.old }
 {
-    let mut k = 0;
-    while k < n {
-        let row = row_at(cells, k);
-        rows[k] = row;
-        k += 1;
+    for (k, row) in rows[..n].iter_mut().enumerate() {
+        *row = row_at(cells, k);
     }
 }
 
@@ -163,7 +150,7 @@ pub fn search_rows(
     words: &[u32],
     rows: &mut [Row],
 ) -> Answer
-    ensures { (result ≡ search_of query.now measure p q allowance words.now (length rows.old)) × (rows.new ≡ rows_after query.now measure p q allowance words.now rows.old) }
+    ensures { (answer_in result ≡ search_of query.now measure p q allowance words.now (length rows.old)) × (rows.new ≡ rows_after query.now measure p q allowance words.now rows.old) }
 {
     let mut cells = [0u32; ROW_CELLS * index::MOST_NAMES];
     let answer = find_rows(

@@ -18,9 +18,7 @@ use Rattle.likeness.specs.Measures.{good_measure, good_threshold}
 use Rattle.likeness.specs.Terms.{lowest_terms}
 use Rattle.index.specs.Good.{good_of}
 use Rattle.sizes.specs.Method.{touches_of, answers_of}
-use Rattle.search.specs.Answers.{question_cases, question_of, refusal_of, search_good_of, search_of, given_by, Columns, room_of, columns_of, columns_over, Searched}
-use Rattle.search.specs.declared.Answer.{Answer}
-use Rattle.search.specs.declared.Answer.TheVariants.{Found, Refused}
+use Rattle.search.specs.Answers.{question_cases, question_of, refusal_of, search_good_of, search_of, given_by, Columns, room_of, columns_of, columns_over, Searched, Answer, Found, Refused}
 
 module _ (s : List ℕ) (m p q allowance : ℕ) (w : List ℕ) (room : ℕ) where
   pub good_past : ltb allowance (touches_of w m p q (features_of s)) ≡ true → search_good_of s m p q allowance w room ≡ Refused 7 allowance

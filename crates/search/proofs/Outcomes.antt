@@ -20,9 +20,7 @@ use Rattle.words.specs.Words.{name_id, name_size}
 use Rattle.index.specs.Good.{good_of, Good}
 use Rattle.candidates.specs.Method.{held_by}
 use Rattle.sizes.specs.Method.{lists_for, shared_with, touches_of, answers_of}
-use Rattle.search.specs.Answers.{number_in, rows_in, threshold_p, threshold_q, question_of, refusal_of, search_good_of, search_of, given_by}
-use Rattle.search.specs.declared.Answer.{Answer}
-use Rattle.search.specs.declared.Answer.TheVariants.{Found, Refused}
+use Rattle.search.specs.Answers.{number_in, rows_in, threshold_p, threshold_q, question_of, refusal_of, search_good_of, search_of, given_by, Answer, Found, Refused}
 use Rattle.sizes.proofs.Laws.{length_lists}
 use Rattle.search.proofs.Answered.{good_past, good_full, good_found, search_refused, search_runs, question_good, refusal_question, refusal_index}
 

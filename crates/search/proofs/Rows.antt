@@ -4,15 +4,15 @@ use mathlib.Core.Path.{◌≡◌, refl, sym, ap, ap₂, ◌∙◌}
 use mathlib.Core.Bool.{Bool}
 use mathlib.Core.Logic.{⊎_elim}
 use mathlib.Core.List.{List, [], ◌∷◌, ◌++◌, map, map-append}
-use Prim.Native.Nat.{ℕ, suc, ◌+◌, ◌≤◌, ◌<◌}
+use Prim.Native.Nat.{ℕ, suc, ◌+◌, ◌-◌, ◌≤◌, ◌<◌}
 use native.Mathlib.Nat.{eq-or-lt_of_le}
 use native.Mathlib.Numerals.{add-one}
 use native.Mathlib.Omega.{arith}
-use lib.ListN.{length, get_or, drop, set, length-append, length-drop, length-map, length-set}
+use lib.ListN.{length, get_or, drop, set, length-append, length-map, length-set}
 use lib.Seq.{drop-cons, set_at, append_snoc}
 use lib.Dec.{leb}
 use borrow.Author.Tests.{le-leb, lt-leb}
-use Rattle.laws.proofs.Passing.{passing_nil, passing_met, passing_passed, passing_up, passing_all, passing_most}
+use Rattle.laws.proofs.Passing.{passing_nil, passing_met, passing_passed, passing_all, passing_most}
 use Rattle.search.specs.Places.{places_in}
 use Rattle.search.specs.Answers.{over}
 
@@ -34,11 +34,6 @@ pub places_passed : (a : List ℕ) (k : ℕ) → get_or a k 0 ≤ 0 → places_i
 unfolding places_in
 places_passed a k h = passing_passed (counts a) k (lt-leb 1 (get_or a k 0) (omega arith))
 
--- the places of more names are at least as many
-pub places_up : (a : List ℕ) (k d : ℕ) → length (places_in a k) ≤ length (places_in a (k + d))
-unfolding places_in
-places_up a = passing_up (counts a)
-
 -- where they are no more, they are the same
 pub places_all : (a : List ℕ) (k d : ℕ) → length (places_in a (k + d)) ≤ length (places_in a k) → places_in a (k + d) ≡ places_in a k
 unfolding places_in
@@ -59,9 +54,6 @@ places_most a = passing_most (counts a)
 
 -- ---- a column
 
-pub over_nothing : (s : List ℕ) → s ≡ over [] s
-over_nothing s = refl
-
 -- one row more
 pub over_more : (f : ℕ → ℕ) (l : List ℕ) (x k : ℕ) (s : List ℕ) → length l ≡ k → k < length s
     → set (over (map f l) s) k (f x) ≡ over (map f (l ++ (x ∷ []))) s
@@ -74,13 +66,6 @@ over_more f l x k s e h =
     ∙ sym (append_snoc (map f l) (f x) (drop (suc k) s))
     ∙ ap₂ (λ (r : List ℕ) (z : ℕ). r ++ drop z s) (sym (map-append f l (x ∷ []))) (sym (ap length (map-append f l (x ∷ [])) ∙ m ∙ add-one k))
 
-pub length_overs : (f : ℕ → ℕ) (l : List ℕ) (s : List ℕ) → length l ≤ length s → length (over (map f l) s) ≡ length s
-length_overs f l s h =
-    let n = length-map l f in
-    let a = length-append (map f l) (drop (length (map f l)) s) in
-    let d = length-drop (length (map f l)) s in
-    omega arith
-
 -- ---- a column, name by name
 
 -- after the first i names: as long as it was, and in front what the answers among them have there
@@ -91,17 +76,26 @@ pub record Written (a : List ℕ) (f : ℕ → ℕ) (before after : List ℕ) (i
 pub written_nil : (a : List ℕ) (f : ℕ → ℕ) (s : List ℕ) → Written a f s s 0
 written_nil a f s = record { long = refl; front = ap (λ (l : List ℕ). over (map f l) s) (sym (places_nil a)) }
 
-pub written_met : (a : List ℕ) (f : ℕ → ℕ) (s t : List ℕ) (i k v : ℕ) → 0 < get_or a i 0 → k ≡ length (places_in a i) → k < length s → v ≡ f i
-    → Written a f s t i → Written a f s (set t k v) (i + 1)
-written_met a f s t i k v h n m e r =
+pub written_met : (a : List ℕ) (f : ℕ → ℕ) (s t u : List ℕ) (i k v : ℕ) → u ≡ set t k v → 0 < get_or a i 0 → k ≡ length (places_in a i) → k < length s
+    → v ≡ f i → Written a f s t i → Written a f s u (i + 1)
+written_met a f s t u i k v w h n m e r =
     record {
-      long = length-set t k v ∙ r.long;
+      long = ap length w ∙ length-set t k v ∙ r.long;
       front =
-          ap₂ (λ (l : List ℕ) (x : ℕ). set l k x) r.front e
+          w
+          ∙ ap₂ (λ (l : List ℕ) (x : ℕ). set l k x) r.front e
           ∙ over_more f (places_in a i) i k s (sym n) m
           ∙ ap (λ (l : List ℕ). over (map f l) s) (sym (places_met a i h));
     }
 
-pub written_passed : (a : List ℕ) (f : ℕ → ℕ) (s t : List ℕ) (i : ℕ) → get_or a i 0 ≤ 0 → Written a f s t i → Written a f s t (i + 1)
-written_passed a f s t i h r =
-    record { long = r.long; front = r.front ∙ ap (λ (l : List ℕ). over (map f l) s) (sym (places_passed a i h)) }
+pub written_passed : (a : List ℕ) (f : ℕ → ℕ) (s t u : List ℕ) (i : ℕ) → u ≡ t → get_or a i 0 ≤ 0 → Written a f s t i → Written a f s u (i + 1)
+written_passed a f s t u i w h r =
+    record { long = ap length w ∙ r.long; front = w ∙ r.front ∙ ap (λ (l : List ℕ). over (map f l) s) (sym (places_passed a i h)) }
+
+-- where the answers among the first i names are as many as all, the column is written
+pub written_all : (a : List ℕ) (f : ℕ → ℕ) (s t : List ℕ) (i n : ℕ) → i ≤ n → length (places_in a n) ≤ length (places_in a i) → Written a f s t i
+    → t ≡ over (map f (places_in a n)) s
+written_all a f s t i n h m r =
+    let q : i + (n - i) ≡ n = omega arith in
+    let z = ap (λ (j : ℕ). length (places_in a j)) q in
+    r.front ∙ ap (λ (p : List ℕ). over (map f p) s) (sym (places_all a i (n - i) (omega arith)) ∙ ap (places_in a) q)

@@ -22,9 +22,7 @@ use Rattle.candidates.proofs.Spending.{spent_most}
 use Rattle.sizes.specs.Method.{sizes_end, shared_with, touches_of, answers_of}
 use Rattle.sizes.specs.Tables.{Asked, leasts_of, Reachable, touches_by, answers_table, Covered}
 use Rattle.search.specs.Places.{places_in}
-use Rattle.search.specs.Answers.{search_good_of, search_of, given_by, Columns, room_of, least_for, columns_of, columns_over, Searched}
-use Rattle.search.specs.declared.Answer.{Answer}
-use Rattle.search.specs.declared.Answer.TheVariants.{Found, Refused}
+use Rattle.search.specs.Answers.{search_good_of, search_of, given_by, Columns, room_of, least_for, columns_of, columns_over, Searched, Answer, Found, Refused}
 use Rattle.search.proofs.Answered.{good_past, good_full, good_found, question_none, refusal_none, search_runs, searched_refused}
 use Rattle.sizes.proofs.Answering.{length_answers}
 use Rattle.sizes.proofs.Leasts.{leasts_reachable, touches_leasts, least_listed}

@@ -1,6 +1,6 @@
 -- What a search answers: the order of refusals, the rows, and the number and values of each case.
 -- Assumes nothing.
-use Rattle.std.specs.Prelude.{◌≡◌, cond, not, List, [], ◌∷◌, ◌++◌, map, ℕ, min, length, drop, ltb, eqb}
+use Rattle.std.specs.Prelude.{◌≡◌, Result, Ok, Err, cond, not, List, [], ◌∷◌, ◌++◌, map, ℕ, min, length, drop, ltb, eqb}
 use Rattle.laws.specs.Cases.{Case, case, first_case}
 use Rattle.names.specs.Names.{name_cases}
 use Rattle.names.specs.Features.{features_of}
@@ -10,10 +10,26 @@ use Rattle.likeness.specs.Terms.{lowest_terms}
 use Rattle.words.specs.Words.{name_id, name_size}
 use Rattle.index.specs.Good.{good_of}
 use Rattle.sizes.specs.Method.{touches_of, shared_with, answers_of}
-use Rattle.search.specs.declared.Answer.{Answer}
-use Rattle.search.specs.declared.Answer.TheVariants.{Found, Refused}
+use Rattle.refusals.specs.declared.Refusal.{Refusal}
+use Rattle.refusals.specs.Refusals.{refusal_number}
+use Rattle.search.specs.declared.Found.{Found as FoundOut}
+use Rattle.search.specs.declared.Refused.{Refused as RefusedOut}
 
 -- ---- an answer, as the number and values that the rule sets out
+
+-- rows, touches and the threshold where it is answered, a number and touches where it is refused
+pub data Answer : Type 0 where
+  Found : ℕ → ℕ → ℕ → ℕ → Answer
+  Refused : ℕ → ℕ → Answer
+
+-- what the code answers, set out
+abbrev pub answer_in : Result FoundOut RefusedOut → Answer
+answer_in (Ok x) = Found x.rows x.touches x.p x.q
+answer_in (Err x) = Refused (refusal_number x.refusal) x.touches
+
+-- what is refused before its work is counted has no touches
+abbrev pub before_work : Refusal → RefusedOut
+before_work r = record { refusal = r; touches = 0 }
 
 -- 0 where answered
 abbrev pub number_in : Answer → ℕ

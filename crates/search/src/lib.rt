@@ -5,31 +5,49 @@
 ghost use Rattle.std.specs.Prelude.{◌≡◌, List, ◌++◌, map, ℕ, ◌≤◌, ◌<◌, min, length, get_or, drop, true};
 ghost use Rattle.likeness.specs.Measures.{good_measure, good_threshold};
 ghost use Rattle.laws.specs.Sort.{sort_of};
+ghost use Rattle.refusals.specs.Refusals.{outcome_number};
 ghost use Rattle.names.specs.Names.{judge_of};
 ghost use Rattle.names.specs.Features.{features_of};
 ghost use Rattle.names.specs.Set.{filled};
 ghost use Rattle.index.specs.Good.{good_of, Good, ids_in};
 ghost use Rattle.words.specs.Words.{name_count, name_id, name_size};
 ghost use Rattle.sizes.specs.Method.{sizes_end};
-ghost use Rattle.search.specs.Answers.{question_of, over, as_columns, Searched};
+ghost use Rattle.search.specs.Answers.{before_work, answer_in, question_of, over, as_columns, Searched};
 ghost use Rattle.search.specs.Places.{places_in};
 
 use names::FeatureSet;
+use refusals::Refusal;
+
+// What a search finds: how many rows and touches, and the threshold p / q in lowest terms.
+#[derive(Clone, Copy)]
+pub struct Found {
+    pub rows: u32,
+    pub touches: u32,
+    pub p: u16,
+    pub q: u16,
+}
+
+// Why a search is refused, and the touches that are told with it.
+#[derive(Clone, Copy)]
+pub struct Refused {
+    pub refusal: Refusal,
+    pub touches: u32,
+}
+
+// What is refused before its work is counted has no touches.
+impl From<Refusal> for Refused {
+    ghost from_gives = { λ refusal r. r ≡ before_work refusal };
+
+    fn from(refusal: Refusal) -> Refused {
+        Refused {
+            refusal,
+            touches: 0,
+        }
+    }
+}
 
 // What a search answers. specs/Answers.antt sets out the number and the values of each case.
-#[derive(Clone, Copy)]
-pub enum Answer {
-    Found {
-        rows: u32,
-        touches: u32,
-        p: u16,
-        q: u16,
-    },
-    Refused {
-        number: u8,
-        touches: u32,
-    },
-}
+pub type Answer = Result<Found, Refused>;
 
 // ---- the names
 
@@ -39,10 +57,8 @@ fn name_ids(words: &[u32], table: &mut [u32])
     ensures { table.new ≡ ids_in words.now ++ drop (name_count words.now) table.old }
 {
     let n = words::name_count(words);
-    let mut i = 0;
-    while i < n {
-        table[i] = words::name_id(words, i);
-        i += 1;
+    for (i, id) in table[..n].iter_mut().enumerate() {
+        *id = words::name_id(words, i);
     }
 }
 
@@ -54,12 +70,10 @@ fn count_answers(answers: &[u32], n: usize) -> usize
     ensures { result ≡ length (places_in answers.now n) }
 {
     let mut rows = 0;
-    let mut i = 0;
-    while i < n {
-        if 0 < answers[i] {
+    for &count in &answers[..n] {
+        if 0 < count {
             rows += 1;
         }
-        i += 1;
     }
     rows
 }
@@ -82,15 +96,14 @@ fn write_rows(
     ensures least_after { least.new ≡ over (map (λ (i : ℕ). get_or leasts.now (name_size words.now i) 0) (places_in answers.now (name_count words.now))) least.old }
 {
     let mut k = 0;
-    let mut i = 0;
-    while k < rows {
-        let count = answers[i];
-        let at = i;
-        i += 1;
-        if 0 < count {
-            let size = words::name_size(words, at);
-            ids[k] = words::name_id(words, at);
-            shared[k] = count;
+    for (i, count) in answers.iter().enumerate() {
+        if k == rows {
+            break;
+        }
+        if 0 < *count {
+            let size = words::name_size(words, i);
+            ids[k] = words::name_id(words, i);
+            shared[k] = *count;
             sizes[k] = size;
             least[k] = leasts[size as usize];
             k += 1;
@@ -116,7 +129,7 @@ fn sorted_features(query: &[u8]) -> FeatureSet
 pub fn smaller(a: usize, b: usize) -> usize
     ensures { result ≡ min a b }
 {
-    if a < b { a } else { b }
+    a.min(b)
 }
 
 // The search of a good index with a good query, measure and threshold: 7, then 8, or the rows.
@@ -133,7 +146,7 @@ fn run(
     least: &mut [u32],
 ) -> Answer
     requires { Good words.now × (judge_of query.now ≡ 0) × (good_measure measure ≡ true) × (good_threshold p q ≡ true) }
-    ensures { Searched query.now measure p q allowance words.now (as_columns ids.old shared.old sizes.old least.old) (as_columns ids.new shared.new sizes.new least.new) result }
+    ensures { Searched query.now measure p q allowance words.now (as_columns ids.old shared.old sizes.old least.old) (as_columns ids.new shared.new sizes.new least.new) (answer_in result) }
 {
     let n = words::name_count(words);
     let mut table = [0u32; index::MOST_NAMES];
@@ -143,54 +156,54 @@ fn run(
     let features = set.items;
     let leasts = sizes::least_counts(words, measure, p, q, x as u8);
     let mut answers = [0u32; index::MOST_NAMES];
-    let spent = sizes::all_sizes(
+    let Some(spent) = sizes::all_sizes(
         words,
         &table[..n],
         &features[..x],
         &leasts,
         allowance as usize,
         &mut answers,
-    );
-    if spent.past {
-        return Answer::Refused {
-            number: 7,
+    ) else {
+        return Err(Refused {
+            refusal: Refusal::OverAllowance,
             touches: allowance,
-        };
-    }
-    let touches = spent.touches as u32;
+        });
+    };
+    let touches = spent as u32;
     let rows = count_answers(&answers, n);
-    let room = smaller(
-        ids.len(),
-        smaller(shared.len(), smaller(sizes.len(), least.len())),
-    );
+    let room = ids
+        .len()
+        .min(shared.len())
+        .min(sizes.len())
+        .min(least.len());
     if room < rows {
-        return Answer::Refused { number: 8, touches };
+        return Err(Refused {
+            refusal: Refusal::NoRoom,
+            touches,
+        });
     }
     write_rows(words, &answers, &leasts, rows, ids, shared, sizes, least);
     let t = likeness::lowest(p, q);
-    Answer::Found {
+    Ok(Found {
         rows: rows as u32,
         touches,
         p: t.p,
         q: t.q,
-    }
+    })
 }
 
-// What the query, the measure and the threshold are refused with, in that order; 0 where nothing is.
-fn question(query: &[u8], measure: u8, p: u16, q: u16) -> u8
-    ensures { result ≡ question_of query.now measure p q }
+// What the query, the measure and the threshold are refused with, in that order.
+fn question(query: &[u8], measure: u8, p: u16, q: u16) -> Result<(), Refusal>
+    ensures { outcome_number result ≡ question_of query.now measure p q }
 {
-    let number = names::judge(query);
-    if number != 0 {
-        return number;
-    }
+    names::judge(query)?;
     if !likeness::good_measure(measure) {
-        return 4;
+        return Err(Refusal::BadMeasure);
     }
     if !likeness::good_threshold(p, q) {
-        return 5;
+        return Err(Refusal::BadThreshold);
     }
-    0
+    Ok(())
 }
 
 // The search of words that were checked before: `good` is what index::good answers of them.
@@ -208,17 +221,11 @@ pub fn search_checked(
     least: &mut [u32],
 ) -> Answer
     requires { good ≡ good_of words.now }
-    ensures { Searched query.now measure p q allowance words.now (as_columns ids.old shared.old sizes.old least.old) (as_columns ids.new shared.new sizes.new least.new) result }
+    ensures { Searched query.now measure p q allowance words.now (as_columns ids.old shared.old sizes.old least.old) (as_columns ids.new shared.new sizes.new least.new) (answer_in result) }
 {
-    let number = question(query, measure, p, q);
-    if number != 0 {
-        return Answer::Refused { number, touches: 0 };
-    }
+    question(query, measure, p, q)?;
     if !good {
-        return Answer::Refused {
-            number: 6,
-            touches: 0,
-        };
+        return Err(Refusal::BadIndex.into());
     }
     run(
         query, measure, p, q, allowance, words, ids, shared, sizes, least,
@@ -239,7 +246,7 @@ pub fn search_good(
     least: &mut [u32],
 ) -> Answer
     requires { Good words.now }
-    ensures { Searched query.now measure p q allowance words.now (as_columns ids.old shared.old sizes.old least.old) (as_columns ids.new shared.new sizes.new least.new) result }
+    ensures { Searched query.now measure p q allowance words.now (as_columns ids.old shared.old sizes.old least.old) (as_columns ids.new shared.new sizes.new least.new) (answer_in result) }
 {
     search_checked(
         true, query, measure, p, q, allowance, words, ids, shared, sizes, least,
@@ -259,7 +266,7 @@ pub fn search(
     sizes: &mut [u32],
     least: &mut [u32],
 ) -> Answer
-    ensures { Searched query.now measure p q allowance words.now (as_columns ids.old shared.old sizes.old least.old) (as_columns ids.new shared.new sizes.new least.new) result }
+    ensures { Searched query.now measure p q allowance words.now (as_columns ids.old shared.old sizes.old least.old) (as_columns ids.new shared.new sizes.new least.new) (answer_in result) }
 {
     let good = index::good(words);
     search_checked(

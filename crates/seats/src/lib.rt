@@ -22,13 +22,12 @@ fn row_seat(words: &[u32], size: u32, from: usize, to: usize, feature: u32) -> S
     requires { Good words.now × (from ≡ rows_under words.now size) × (to ≡ rows_under words.now (size + 1)) }
     ensures { result ≡ seat_of (keys_in (all_rows_in words.now)) (key_of size feature) }
 {
+    let feature = u64::from(feature);
     let first = words::row_start(words, from) + words::FEATURE_COLUMN;
     let r = from
-        + binary_search::place_in_column(words, first, words::ROW_WIDTH, to - from, feature as u64);
-    if r < to {
-        if words::row_feature(words, r) == feature as u64 {
-            return Seat::At(r);
-        }
+        + binary_search::place_in_column(words, first, words::ROW_WIDTH, to - from, feature);
+    if r < to && words::row_feature(words, r) == feature {
+        return Seat::At(r);
     }
     Seat::Before(r)
 }
@@ -52,14 +51,9 @@ fn put_row(place: usize, size: u32, feature: u32, at: &mut [u32], values: &mut [
     ensures { (at.new ≡ sets at.old n (replicate row_width place)) × (values.new ≡ sets values.old n (size ∷ feature ∷ 0 ∷ 0 ∷ [])) }
 {
     let word = place as u32;
-    at[n] = word;
-    at[n + 1] = word;
-    at[n + 2] = word;
-    at[n + 3] = word;
-    values[n] = size;
-    values[n + 1] = feature;
-    values[n + 2] = 0;
-    values[n + 3] = 0;
+    let end = n + words::ROW_WIDTH;
+    at[n..end].fill(word);
+    values[n..end].copy_from_slice(&[size, feature, 0, 0]);
 }
 
 // Where the id goes among the postings for a feature, and how many places of new rows there are then.
@@ -118,15 +112,14 @@ pub fn put_seats(
     ensures { (result ≡ n + length (row_cuts (length features.now) (all_rows_in words.now) features.now)) × (take result at.new ≡ take n at.old ++ map (λ (p : ℕ). name_start (name_count words.now) + p) (row_cuts (length features.now) (all_rows_in words.now) features.now)) × (take result values.new ≡ take n values.old ++ new_rows (length features.now) (all_rows_in words.now) features.now) × (postings.new ≡ posting_cuts (length features.now) id (all_rows_in words.now) features.now) }
 {
     let size = features.len() as u32;
-    let from = lists::rows_under(words, size as u64, 0);
-    let to = lists::rows_under(words, size as u64 + 1, from);
+    let wide = u64::from(size);
+    let from = lists::rows_under(words, wide, 0);
+    let to = lists::rows_under(words, wide + 1, from);
     let mut m = n;
-    let mut j = 0;
-    while j < features.len() {
-        let seated = seat(words, id, size, from, to, features[j], at, values, m);
+    for (j, feature) in features.iter().enumerate() {
+        let seated = seat(words, id, size, from, to, *feature, at, values, m);
         postings[j] = seated.posting as u32;
         m = seated.count;
-        j += 1;
     }
     m
 }

@@ -101,7 +101,7 @@ module _ (size : ℕ) (fs : List ℕ) where
             },
           )
 
-  pub placing_end : (end rows : List ℕ) (place at : ℕ) → Placing size fs end rows place at → length rows ≤ at → rows ≡ end
+  pub placing_end : (end rows : List ℕ) (place at : ℕ) → Placing size fs end rows place at → length rows < at + row_width → rows ≡ end
   unfolding placed_from
   placing_end end rows place at p b =
       let w = p.width in

@@ -35,13 +35,12 @@ fn place_rows(rows: &mut [u32], size: u32, features: &[u32])
     ensures { rows.new ≡ placed_from (length rows.old / row_width) 0 size features.now rows.old }
 {
     let mut place: u32 = 0;
-    let mut at = 0;
-    while at < rows.len() {
+    for r in 0..rows.len() / words::ROW_WIDTH {
+        let at = words::ROW_WIDTH * r;
         let count = count_at(rows, at, size, features);
         rows[at + words::PLACE_COLUMN] = place;
         rows[at + words::LENGTH_COLUMN] = count;
         place += count;
-        at += words::ROW_WIDTH;
     }
 }
 

@@ -19,9 +19,9 @@ use Rattle.sizes.specs.Method.{names_of, lists_for, touches_at, shared_with, siz
 
 -- ---- the names
 
--- 1 where a name has the size, 0 where none has
-unfoldable pub present_at : List ℕ → ℕ → ℕ
-present_at w y = cond (leb 1 (names_of w y)) 1 0
+-- whether a name has the size
+unfoldable pub present_at : List ℕ → ℕ → Bool
+present_at w y = leb 1 (names_of w y)
 
 -- no name has this size or a larger one: the last row's and one, as rows ascend by size
 unfoldable pub sizes_below : List ℕ → ℕ

@@ -9,11 +9,11 @@ ghost use Rattle.laws.specs.Lists.{tabulate};
 ghost use Rattle.laws.specs.Sort.{sort_of};
 ghost use Rattle.names.specs.Features.{most_features};
 ghost use Rattle.index.specs.Good.{Good, most_names, ids_in};
+ghost use Rattle.candidates.specs.Spending.{past_in, spent_in};
 ghost use Rattle.lists.specs.Sizes.{rows_under};
 ghost use Rattle.sizes.specs.Method.{sizes_end};
 ghost use Rattle.sizes.specs.Tables.{sizes_below, present_at, leasts_of, Reachable, start_of, small_key, filled_of, Asked, Lent, Sized, Covered};
 
-use candidates::Spent;
 use names::FeatureSet;
 
 // The sizes of names are below this.
@@ -31,35 +31,31 @@ fn sizes_below(words: &[u32]) -> usize
     words::row_size(words, rows - 1) as usize + 1
 }
 
-// Which sizes the names have: 1 at each of them.
-fn sizes_present(words: &[u32]) -> [u32; SIZES_END]
+// Which sizes the names have.
+fn sizes_present(words: &[u32]) -> [bool; SIZES_END]
     requires { Good words.now }
     ensures { result ≡ tabulate (present_at words.now) sizes_end }
 {
     let n = words::name_count(words);
-    let mut table = [0u32; SIZES_END];
-    let mut i = 0;
-    while i < n {
+    let mut table = [false; SIZES_END];
+    for i in 0..n {
         let size = words::name_size(words, i) as usize;
-        table[size] = 1;
-        i += 1;
+        table[size] = true;
     }
     table
 }
 
 // ---- the least counts
 
-// The least count of size y for a query of x features, where `present` is 1 if a name has the size; 0 where none has, or it isn't searched.
-fn least_of(present: u32, measure: u8, p: u16, q: u16, x: u8, y: u8) -> u32
-    ensures { result ≡ cond (leb 1 present && is_searched measure p q x y) (least_count measure p q x y) 0 }
+// The least count of size y for a query of x features, where `present` says whether a name has the size; 0 where none has, or it isn't searched.
+fn least_of(present: bool, measure: u8, p: u16, q: u16, x: u8, y: u8) -> u32
+    ensures { result ≡ cond (present && is_searched measure p q x y) (least_count measure p q x y) 0 }
 {
-    if present == 0 {
-        return 0;
+    if present && likeness::searched(measure, p, q, x, y) {
+        u32::from(likeness::least_count(measure, p, q, x, y))
+    } else {
+        0
     }
-    if !likeness::searched(measure, p, q, x, y) {
-        return 0;
-    }
-    likeness::least_count(measure, p, q, x, y) as u32
 }
 
 // The least count of each size for a query of x features; 0 where no name has the size, or it isn't searched.
@@ -70,10 +66,8 @@ pub fn least_counts(words: &[u32], measure: u8, p: u16, q: u16, x: u8) -> [u32; 
     let present = sizes_present(words);
     let end = sizes_below(words);
     let mut leasts = [0u32; SIZES_END];
-    let mut y = 0;
-    while y < end {
+    for y in 0..end {
         leasts[y] = least_of(present[y], measure, p, q, x, y as u8);
-        y += 1;
     }
     leasts
 }
@@ -98,8 +92,8 @@ fn rows_at(words: &[u32], size: u32, least: usize, known: usize) -> Rows
             to: known,
         };
     }
-    let from = lists::rows_under(words, size as u64, known);
-    let to = lists::rows_under(words, size as u64 + 1, from);
+    let from = lists::rows_under(words, u64::from(size), known);
+    let to = lists::rows_under(words, u64::from(size) + 1, from);
     Rows { from, to }
 }
 
@@ -124,17 +118,15 @@ fn find_lists(
     let first = words::postings_start(words);
     let spared = features.len() - least;
     let mut empty = 0;
-    let mut j = 0;
-    while j < features.len() {
-        let place = lists::place_among(words, rows, first, size, features[j]);
+    for (j, feature) in features.iter().enumerate() {
+        let place = lists::place_among(words, rows, first, size, *feature);
         let key = place.count as u64 * 256 + j as u64;
         starts[j] = place.start;
         keys[j] = key;
-        empty += binary_search::one_if(key < 256);
+        empty += usize::from(key < 256);
         if spared < empty {
             return false;
         }
-        j += 1;
     }
     true
 }
@@ -181,23 +173,17 @@ fn one_size(
     counts: &mut [u32],
     met: &mut [usize],
     answers: &mut [u32],
-) -> Spent
+) -> Option<usize>
     requires good { Good words.now × (ids.now ≡ ids_in words.now) × Asked features.now × (least ≤ length features.now) × (length answers.old ≡ most_names) }
     requires lent { Lent features.now starts.old keys.old spare.old counts.old met.old }
     requires from_value { 1 ≤ least → (from ≡ rows_under words.now size) × (to ≡ rows_under words.now (size + 1)) }
-    ensures { Sized words.now size features.now least budget answers.old answers.new counts.new result.past result.touches }
+    ensures { Sized words.now size features.now least budget answers.old answers.new counts.new (past_in result) (spent_in result) }
 {
     if least == 0 {
-        return Spent {
-            past: false,
-            touches: 0,
-        };
+        return Some(0);
     }
     if !order_lists(words, features, size, from, to, least, starts, keys, spare) {
-        return Spent {
-            past: false,
-            touches: 0,
-        };
+        return Some(0);
     }
     candidates::walk_lists(
         words, ids, keys, starts, least, budget, counts, met, answers,
@@ -220,19 +206,18 @@ fn each_size(
     counts: &mut [u32],
     met: &mut [usize],
     answers: &mut [u32],
-) -> Spent
+) -> Option<usize>
     requires good { Good words.now × (ids.now ≡ ids_in words.now) × Asked features.now × Reachable features.now leasts.now × (answers.old ≡ replicate most_names 0) }
     requires lent { Lent features.now starts.old keys.old spare.old counts.old met.old }
-    ensures { Covered words.now leasts.now features.now allowance answers.new result.past result.touches }
+    ensures { Covered words.now leasts.now features.now allowance answers.new (past_in result) (spent_in result) }
 {
     let end = sizes_below(words);
     let mut touches = 0;
     let mut under = 0;
-    let mut y = 0;
-    while y < end {
+    for y in 0..end {
         let least = leasts[y] as usize;
         let rows = rows_at(words, y as u32, least, under);
-        let spent = one_size(
+        touches += one_size(
             words,
             ids,
             features,
@@ -247,21 +232,10 @@ fn each_size(
             counts,
             met,
             answers,
-        );
-        if spent.past {
-            return Spent {
-                past: true,
-                touches: 0,
-            };
-        }
-        touches += spent.touches;
+        )?;
         under = rows.to;
-        y += 1;
     }
-    Spent {
-        past: false,
-        touches,
-    }
+    Some(touches)
 }
 
 // All sizes, over tables that are set to 0 once for all of them. The answers, by place, come as 0.
@@ -272,9 +246,9 @@ pub fn all_sizes(
     leasts: &[u32],
     allowance: usize,
     answers: &mut [u32],
-) -> Spent
+) -> Option<usize>
     requires { Good words.now × (ids.now ≡ ids_in words.now) × Asked features.now × Reachable features.now leasts.now × (answers.old ≡ replicate most_names 0) }
-    ensures { Covered words.now leasts.now features.now allowance answers.new result.past result.touches }
+    ensures { Covered words.now leasts.now features.now allowance answers.new (past_in result) (spent_in result) }
 {
     let x = features.len();
     let mut starts = [0usize; FeatureSet::CAPACITY];

@@ -1,16 +1,18 @@
 -- What one turn of each loop does, on plain lists.
 -- Assumes nothing.
-use mathlib.Core.Path.{◌≡◌, refl, sym, ap, ap₂, ◌∙◌}
+use mathlib.Core.Path.{◌≡◌, refl, sym, ap, ◌∙◌}
 use mathlib.Core.List.{List, [], ◌∷◌, ◌++◌, append-nil, append_assoc}
 use Prim.Native.Nat.{ℕ, zero, suc, ◌+◌, ◌-◌, ◌≤◌, ◌<◌}
 use native.Mathlib.Nat.{sub-zero, suc-sub-suc}
 use native.Mathlib.Numerals.{add-one}
 use native.Mathlib.Omega.{arith}
-use lib.ListN.{length, get_or, take, drop, set, length-drop, take-append-drop, get_or-append, get_or-eq_default}
-use lib.Seq.{paste, paste-suc, slice, slice_empty, take-length, drop-length, length_paste_head, length-take-le, take-nil, take-suc, drop-cons, take-take, take_at, drop_at, drop-drop, get_or-take, get_or-drop, take-append-le, drop-append-le}
+use lib.ListN.{length, get_or, take, drop, set, length-drop, take-append-drop, get_or-eq_default}
+use lib.Seq.{paste, slice, slice_empty, take-length, drop-length, length-take-le, take-nil, take-suc, drop-cons, take-take, take_at, drop_at, drop-drop, get_or-take, get_or-drop, take-append-le, drop-append-le}
 use Rattle.laws.specs.Lists.{Ascending, AllAbove}
 use Rattle.laws.specs.Sort.{AllFrom, Sorted}
 use Rattle.laws.specs.Each.{Each}
+use mathlib.Core.Logic.{⊎_elim}
+use Rattle.laws.proofs.Order.{le_or_lt}
 use Rattle.laws.proofs.Members.{each_at, each_of}
 use Rattle.laws.proofs.Ascending.{ascending_at}
 use Rattle.laws.proofs.Sort.{ascending_left}
@@ -42,8 +44,26 @@ pub ascending_next : (end : ℕ) (at : List ℕ) (j m : ℕ) → m ≡ suc j →
 unfolding Ascending AllAbove
 ascending_next end at j m e s h b = rw e (next_place ◌<◌ Ascending (λ x y l t. t.0.0) (λ x l t. t.1) end at j s h b)
 
-pub each_le : (end : ℕ) (at : List ℕ) → Each (λ (p : ℕ). p < end) at → Each (λ (p : ℕ). p ≤ end) at
-each_le end at h = each_of (λ (p : ℕ). p ≤ end) at 0 (λ i b. let q = each_at (λ (p : ℕ). p < end) at i 0 h b in omega arith)
+-- a place is not after the next, or the end after the last
+pub block_before : (end : ℕ) (at : List ℕ) (j m to : ℕ) → m ≡ suc j → Sorted at → Each (λ (p : ℕ). p ≤ end) at → j < length at → to ≡ get_or at m end
+    → get_or at j 0 ≤ to
+block_before end at j m to d s h l q =
+    let n = sorted_next end at j m d s h l in
+    let e = get_d_there at j 0 end l in
+    omega arith
+
+-- and before it where places ascend
+pub block_after : (end : ℕ) (at : List ℕ) (i to : ℕ) → Ascending at → Each (λ (p : ℕ). p < end) at → i < length at → to ≡ get_or at (i + 1) end
+    → (get_or at i 0 + 1 ≤ to) × (to ≤ end)
+block_after end at i to s h l q =
+    let n = ascending_next end at i (i + 1) (add-one i) s h l in
+    let e = get_d_there at i 0 end l in
+    let m : get_or at (i + 1) end ≤ end =
+    ⊎_elim
+    (λ (b : length at ≤ i + 1). let d = get_or-eq_default at end b in omega arith)
+    (λ (b : i + 1 < length at). let d = each_at (λ (p : ℕ). p < end) at (i + 1) end h b in omega arith)
+    (le_or_lt (length at) (i + 1)) in
+    (omega arith, omega arith)
 
 -- no place from j on is below the place at j
 places_from : (end : ℕ) (at : List ℕ) (j : ℕ) → Sorted at → AllFrom (get_or at j end) (drop j at)
@@ -84,53 +104,6 @@ get_d_behind n k h l e b =
     let f = get_or-drop k (h ++ drop n l) 0 0 in
     let g = get_or-drop k l 0 0 in
     rw q at (sym f ∙ ap (λ (r : List ℕ). get_or r 0 0) (drop_behind n k h l e b) ∙ g)
-
--- one word more moves up: it stands before the moved ones
-pub up_step : (l w : List ℕ) (k m to by : ℕ) → m ≡ suc k → m ≤ to → to + by ≤ length l → w ≡ paste l (m + by) (drop m l) (to - m)
-    → set w (k + by) (get_or w k 0) ≡ paste l (k + by) (drop k l) (to - k)
-up_step l w k m to by e h b q =
-    let end : to + by ≡ k + by + (to - k) = omega arith in
-    ap₂ (λ (r : List ℕ) (v : ℕ). set r (k + by) v) split value
-    ∙ set_last (k + by) (get_or l k 0) l (take (to - suc k) (drop (suc k) l) ++ drop (to + by) l) (omega arith)
-    ∙ sym (append_assoc (take (k + by) l) (get_or l k 0 ∷ take (to - suc k) (drop (suc k) l)) (drop (to + by) l))
-    ∙ ap₂ (λ (r : List ℕ) (n : ℕ). take (k + by) l ++ r ++ drop n l) front end
-  where
-    split : w ≡ take (suc (k + by)) l ++ (take (to - suc k) (drop (suc k) l) ++ drop (to + by) l)
-    split =
-        let f : suc k + by ≡ suc (k + by) = omega arith in
-        let g : suc k + by + (to - suc k) ≡ to + by = omega arith in
-        q ∙ rw (e, g, f, append_assoc)
-
-    value : get_or w k 0 ≡ get_or l k 0
-    value =
-        let n = length-take-le (suc (k + by)) l (omega arith) in
-        ap (λ (r : List ℕ). get_or r k 0) split
-        ∙ get_or-append (take (suc (k + by)) l) (take (to - suc k) (drop (suc k) l) ++ drop (to + by) l) 0 k (omega arith)
-        ∙ get_or-take (suc (k + by)) l k 0 (omega arith)
-
-    front : get_or l k 0 ∷ take (to - suc k) (drop (suc k) l) ≡ take (to - k) (drop k l)
-    front =
-        let f : to - k ≡ suc (to - suc k) = omega arith in
-        rw (f, drop-cons l k 0 (omega arith))
-
--- one word more moves down: it stands after the moved ones
-pub down_step : (l w : List ℕ) (k from by : ℕ) → by ≤ from → from ≤ k → k < length l → w ≡ paste l (from - by) (drop from l) (k - from)
-    → set w (k - by) (get_or w k 0) ≡ paste l (from - by) (drop from l) (k + 1 - from)
-down_step l w k from by b h n q =
-    let d = length-drop from l in
-    let e : from - by + (k - from) ≡ k - by = omega arith in
-    let f : k + 1 - from ≡ suc (k - from) = omega arith in
-    ap₂ (λ (r : List ℕ) (x : ℕ). set r (k - by) x) q value
-    ∙ rw (← e, f) (paste-suc l (from - by) (drop from l) (k - from) 0 (omega arith) (omega arith))
-  where
-    value : get_or w k 0 ≡ get_or (drop from l) (k - from) 0
-    value =
-        let d = length-drop from l in
-        let g : from + (k - from) ≡ k = omega arith in
-        let p = length_paste_head l (from - by) (drop from l) (k - from) (omega arith) (omega arith) in
-        ap (λ (r : List ℕ). get_or r k 0) q
-        ∙ get_d_behind (from - by + (k - from)) k (take (from - by) l ++ take (k - from) (drop from l)) l p (omega arith)
-        ∙ rw (get_or-drop, g)
 
 -- ---- words put in
 

@@ -18,8 +18,8 @@ use Rattle.index.specs.Good.{good_of}
 use Rattle.index.proofs.Laws.{verdict_total}
 use Rattle.index.proofs.Total.{id_same, size_same}
 use Rattle.search.specs.Answers.{question_cases, refusal_of, search_good_of, search_of, given_by}
-use Rattle.search.specs.declared.Answer.{Answer}
-use Rattle.search.specs.declared.Answer.TheVariants.{Found, Refused}
+use Rattle.search.specs.Answers.{Answer}
+use Rattle.search.specs.Answers.{Found, Refused}
 use Rattle.search.proofs.Listed.{answer_place}
 use Rattle.sizes.proofs.Total.{shared_same, touches_same, answers_same}
 use Rattle.statements.specs.Demands.{Lending, columns, records, Question, answer, found, after, with_words, Beyond}

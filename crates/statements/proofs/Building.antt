@@ -17,7 +17,7 @@ use Rattle.register.proofs.Laws.{accepted_good, refused_words, refused_bad}
 use Rattle.register.proofs.First.{first_bad_built, none_bad, none_bad_over, none_bad_fits}
 use Rattle.register.proofs.Names.{accepted_name, accepted_count, accepted_id, accepted_size, accepted_features}
 use Rattle.search.specs.Answers.{number_in, refusal_of}
-use Rattle.search.specs.declared.Answer.TheVariants.{Refused}
+use Rattle.search.specs.Answers.{Refused}
 use Rattle.search.proofs.Answered.{search_refused}
 use Rattle.search.proofs.Outcomes.{admitted}
 use Rattle.statements.specs.Demands.{Lending, columns, records, Question, answer, number, RefusedBefore, Accepted, of_register, of_built, Builds, EndToEnd}

@@ -30,8 +30,8 @@ use Rattle.lists.specs.Lists.{list_in, features_in}
 use Rattle.lists.proofs.Laws.{features_member}
 use Rattle.sizes.specs.Method.{names_of, shared_with, touches_of_size}
 use Rattle.search.specs.Answers.{number_in, rows_in, touches_in, threshold_p, threshold_q, refusal_of, search_good_of, given_by, Columns, least_for, columns_of, over, columns_over}
-use Rattle.search.specs.declared.Answer.{Answer}
-use Rattle.search.specs.declared.Answer.TheVariants.{Found, Refused}
+use Rattle.search.specs.Answers.{Answer}
+use Rattle.search.specs.Answers.{Found, Refused}
 use Rattle.sizes.proofs.Laws.{length_lists, held_features, listed_similar, Query}
 use Rattle.search.proofs.AgainstMethod.{query_features}
 use Rattle.search.proofs.Answered.{good_past, good_full, good_found, search_refused, search_runs}

@@ -22,8 +22,8 @@ use Rattle.words.specs.Words.{name_count, name_id, name_size}
 use Rattle.candidates.specs.Method.{remains, later_count}
 use Rattle.sizes.specs.Method.{lists_for, touches_at, sizes_end, shared_with, touches_of_size, touches_of, listed, answers_of}
 use Rattle.search.specs.Answers.{question_of, refusal_of, search_good_of, search_of, given_by, as_columns, least_for, columns_of}
-use Rattle.search.specs.declared.Answer.{Answer}
-use Rattle.search.specs.declared.Answer.TheVariants.{Found, Refused}
+use Rattle.search.specs.Answers.{Answer}
+use Rattle.search.specs.Answers.{Found, Refused}
 use Rattle.fields.specs.Layouts.{Fitting, line_of, longest_name}
 use Rattle.fields.proofs.Laws.{fitting_named, frame_written, fields_written, name_written}
 use Rattle.frames.specs.Frames.{query_frame}

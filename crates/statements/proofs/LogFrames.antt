@@ -7,7 +7,7 @@ use Prim.Native.Nat.{ℕ, ◌≤◌, ◌<◌}
 use lib.ListN.{length, get_or}
 use Rattle.hex_digits.specs.Lines.{well_formed}
 use Rattle.fields.specs.Layouts.{FieldsFit, is_frame, fields_in, accepted_as, refused_with, read_of}
-use Rattle.fields.specs.declared.Reading.{Reading}
+use Rattle.fields.specs.Layouts.{Reading}
 use Rattle.fields.proofs.Layouts.{buffer_good}
 use Rattle.fields.proofs.Laws.{read_fits, read_roomy}
 use Rattle.log_frames.specs.Frames.{log_frame}

@@ -19,8 +19,8 @@ use Rattle.register.specs.Build.{built_of, words_after}
 use Rattle.words.specs.Words.{name_id, name_size}
 use Rattle.sizes.specs.Method.{shared_with}
 use Rattle.search.specs.Answers.{number_in, rows_in, touches_in, search_of, given_by, Columns, room_of, least_for, over}
-use Rattle.search.specs.declared.Answer.{Answer}
-use Rattle.search.specs.declared.Answer.TheVariants.{Found, Refused}
+use Rattle.search.specs.Answers.{Answer}
+use Rattle.search.specs.Answers.{Found, Refused}
 use Rattle.search.proofs.Outcomes.{given_found, answered}
 use Rattle.answers.specs.Output.{most_input, register_of, queries_of, program_words, rows_lent, opened_of, open_words, query_in, measure_in, p_in, q_in, allowance_in, search_for, places_for, columns_for, row_line, row_text, end_line, refusal_line, ends_answer, answer_lines, answers_text, output_of}
 use Rattle.answers.proofs.Responding.{output_opened, output_refused}

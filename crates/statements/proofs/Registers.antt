@@ -38,7 +38,7 @@ use Rattle.register.proofs.Taking.{id_most, next_last, take_none, take_good}
 use Rattle.register.proofs.First.{each_good, none_bad_fits}
 use Rattle.register.proofs.Laws.{fit_register, accepted_lines, accepted_words}
 use Rattle.register.proofs.Names.{accepted_entries, accepted_index}
-use Rattle.register.specs.declared.Built.{Built}
+use Rattle.register.specs.Build.{Built}
 use Rattle.statements.specs.Demands.{Accepted}
 use Rattle.statements.specs.Former.{IdName}
 use Rattle.statements.specs.Live.{id_names, register_of}

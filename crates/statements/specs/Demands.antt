@@ -5,7 +5,7 @@
 -- the second `records`, and all that is said of a search is said of both.
 -- A list of bytes is a list of numbers below 256; every lent slice of bytes is one.
 -- Assumes nothing.
-use Rattle.std.specs.Prelude.{◌≡◌, ◌↔◌, Bool, true, false, cond, List, [], ◌∷◌, ◌++◌, map, ℕ, ◌+◌, ◌-◌, ◌*◌, ◌≤◌, ◌<◌, length, get_or, take, drop, replicate, eqb, ltb}
+use Rattle.std.specs.Prelude.{◌≡◌, ◌↔◌, Ok, Bool, true, false, cond, List, [], ◌∷◌, ◌++◌, map, ℕ, ◌+◌, ◌-◌, ◌*◌, ◌≤◌, ◌<◌, length, get_or, take, drop, replicate, eqb, ltb}
 use Rattle.laws.specs.Lists.{member, Ascending, count_of, sum_of}
 use Rattle.laws.specs.Filter.{filter_of}
 use Rattle.laws.specs.Cases.{Case, case, first_case}
@@ -22,19 +22,16 @@ use Rattle.index_writer.specs.Built.{words_of}
 use Rattle.lists.specs.Lists.{list_in, features_in}
 use Rattle.hex_digits.specs.Lines.{Bytes}
 use Rattle.fields.specs.Layouts.{is_frame, name_in, line_of, read_of, buffer_of, longest_name}
-use Rattle.frames.specs.Frames.{name_frame, query_frame, row_frame, end_frame, refusal_frame, layouts, name_out, query_out, row_out, end_out, refusal_out}
-use Rattle.frames.specs.declared.NameRead.{NameRead}
-use Rattle.frames.specs.declared.QueryRead.{QueryRead}
-use Rattle.frames.specs.declared.RowRead.TheVariants.{Row}
-use Rattle.frames.specs.declared.EndRead.TheVariants.{End}
-use Rattle.frames.specs.declared.RefusalRead.TheVariants.{Refusal}
+use Rattle.frames.specs.declared.Name.{Name}
+use Rattle.frames.specs.declared.Query.{Query}
+use Rattle.frames.specs.Frames.{name_frame, query_frame, row_frame, end_frame, refusal_frame, layouts, name_out, query_out, row_out, end_out, refusal_out, a_name, a_query, a_row, an_end, a_refusal}
 use Rattle.lines.specs.Lines.{lines_of, nth_line}
 use Rattle.register.specs.Build.{id_in, name_of, entry_of, judge_nth, most_words, built_of, words_after}
 use Rattle.candidates.specs.Method.{signatures, signature_postings}
 use Rattle.sizes.specs.Method.{names_of, lists_for, remaining, touches_of_size, touches_of, answers_of}
 use Rattle.search.specs.Answers.{number_in, rows_in, touches_in, threshold_p, threshold_q, refusal_cases, search_of, given_by, Columns, room_of, columns_of, columns_over}
-use Rattle.search.specs.declared.Answer.{Answer}
-use Rattle.search.specs.declared.Answer.TheVariants.{Refused}
+use Rattle.search.specs.Answers.{Answer}
+use Rattle.search.specs.Answers.{Refused}
 use Rattle.rows.specs.Rows.{records_of, over_rows, columns_in, row_across}
 use Rattle.rows.specs.declared.Row.{Row as Record}
 use Rattle.answers.specs.Output.{answer_of}
@@ -439,11 +436,11 @@ EndToEnd = (register words : List ℕ)
 -- what is written reads back, and a good line that was read is written again: proved by `frames`
 pub record Frames : Type 0 where
   pub name_back : (id : ℕ) (name : List ℕ) (room : ℕ) → id < 65536 → Bytes name → length name ≤ longest_name → length name ≤ room
-      → read_of name_frame (line_of name_frame (id ∷ []) name) room ≡ name_out (record { number = 0; id = id; len = length name })
+      → read_of name_frame (line_of name_frame (id ∷ []) name) room ≡ name_out (a_name id (length name))
   pub query_back : (measure p q allowance : ℕ) (query : List ℕ) (room : ℕ) → measure < 256 → p < 65536 → q < 65536 → allowance < 4294967296
       → Bytes query → length query ≤ longest_name → length query ≤ room
       → read_of query_frame (line_of query_frame (measure ∷ p ∷ q ∷ allowance ∷ []) query) room
-      ≡ query_out (record { number = 0; measure = measure; p = p; q = q; allowance = allowance; len = length query })
+      ≡ query_out (a_query measure p q allowance (length query))
   -- and the lent buffer starts with the name or the query; what stood after that is kept
   pub name_buffer : (id : ℕ) (name buffer : List ℕ) → id < 65536 → Bytes name → length name ≤ longest_name → length name ≤ length buffer
       → buffer_of name_frame (line_of name_frame (id ∷ []) name) buffer ≡ name ++ drop (length name) buffer
@@ -451,20 +448,20 @@ pub record Frames : Type 0 where
       → Bytes query → length query ≤ longest_name → length query ≤ length buffer
       → buffer_of query_frame (line_of query_frame (measure ∷ p ∷ q ∷ allowance ∷ []) query) buffer ≡ query ++ drop (length query) buffer
   pub row_back : (id shared size least : ℕ) → id < 65536 → shared < 256 → size < 256 → least < 256
-      → read_of row_frame (line_of row_frame (id ∷ shared ∷ size ∷ least ∷ []) []) 0 ≡ row_out (Row id shared size least)
+      → read_of row_frame (line_of row_frame (id ∷ shared ∷ size ∷ least ∷ []) []) 0 ≡ row_out (a_row id shared size least)
   pub end_back : (rows touches p q : ℕ) → rows < 65536 → touches < 4294967296 → p < 65536 → q < 65536
-      → read_of end_frame (line_of end_frame (rows ∷ touches ∷ p ∷ q ∷ []) []) 0 ≡ end_out (End rows touches p q)
+      → read_of end_frame (line_of end_frame (rows ∷ touches ∷ p ∷ q ∷ []) []) 0 ≡ end_out (an_end rows touches p q)
   pub refusal_back : (number touches : ℕ) → number < 256 → touches < 4294967296
-      → read_of refusal_frame (line_of refusal_frame (number ∷ touches ∷ []) []) 0 ≡ refusal_out (Refusal number touches)
-  pub name_again : (l : List ℕ) (room : ℕ) (r : NameRead) → name_out r ≡ read_of name_frame l room → r.number ≡ 0
+      → read_of refusal_frame (line_of refusal_frame (number ∷ touches ∷ []) []) 0 ≡ refusal_out (a_refusal number touches)
+  pub name_again : (l : List ℕ) (room : ℕ) (r : Name) → name_out (Ok r) ≡ read_of name_frame l room
       → line_of name_frame (r.id ∷ []) (name_in name_frame l) ≡ l
-  pub query_again : (l : List ℕ) (room : ℕ) (r : QueryRead) → query_out r ≡ read_of query_frame l room → r.number ≡ 0
+  pub query_again : (l : List ℕ) (room : ℕ) (r : Query) → query_out (Ok r) ≡ read_of query_frame l room
       → line_of query_frame (r.measure ∷ r.p ∷ r.q ∷ r.allowance ∷ []) (name_in query_frame l) ≡ l
-  pub row_again : (l : List ℕ) (id shared size least : ℕ) → row_out (Row id shared size least) ≡ read_of row_frame l 0
+  pub row_again : (l : List ℕ) (id shared size least : ℕ) → row_out (a_row id shared size least) ≡ read_of row_frame l 0
       → line_of row_frame (id ∷ shared ∷ size ∷ least ∷ []) [] ≡ l
-  pub end_again : (l : List ℕ) (rows touches p q : ℕ) → end_out (End rows touches p q) ≡ read_of end_frame l 0
+  pub end_again : (l : List ℕ) (rows touches p q : ℕ) → end_out (an_end rows touches p q) ≡ read_of end_frame l 0
       → line_of end_frame (rows ∷ touches ∷ p ∷ q ∷ []) [] ≡ l
-  pub refusal_again : (l : List ℕ) (number touches : ℕ) → refusal_out (Refusal number touches) ≡ read_of refusal_frame l 0
+  pub refusal_again : (l : List ℕ) (number touches : ℕ) → refusal_out (a_refusal number touches) ≡ read_of refusal_frame l 0
       → line_of refusal_frame (number ∷ touches ∷ []) [] ≡ l
   -- no line is a frame of two kinds
   pub one_kind : (l : List ℕ) (i j : ℕ) → i < 5 → j < 5 → is_frame (get_or layouts i row_frame) l ≡ true → is_frame (get_or layouts j row_frame) l ≡ true → i ≡ j

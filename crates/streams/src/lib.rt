@@ -2,7 +2,7 @@
 // told, and never taken for an end. Used by the programs, over standard input and output.
 #![tactic(auto)]
 
-ghost use Rattle.std.specs.Prelude.{◌≡◌, ◌≤◌, ◌<◌, true, false, length, take, IsSome};
+ghost use Rattle.std.specs.Prelude.{◌≤◌, ◌<◌, length, take, IfOk, IfErr};
 ghost use Rattle.std.specs.Io.KnownBytes.{Appends, Consumes, IsAtEnd};
 
 use std::io::{Error, ErrorKind, Read, Write};
@@ -15,101 +15,70 @@ fn interrupted(error: &Error) -> bool {
     error.kind() == ErrorKind::Interrupted
 }
 
-// What reading came to: how many bytes, whether no read failed, and why one did.
-#[derive(Clone, Copy)]
-pub struct Input {
-    pub len: usize,
-    pub whole: bool,
-    pub failure: Option<Error>,
-}
-
-// Reads until the input ends or the room is full.
-pub fn read_input<R: Read>(reader: &mut R, space: &mut [u8]) -> Input
-    ensures within { result.len ≤ length space.new }
-    ensures bytes { result.whole ≡ true → Consumes (R.remaining reader.old) (R.remaining reader.new) (take result.len space.new) }
-    ensures end { result.whole ≡ true → result.len < length space.new → IsAtEnd (R.remaining reader.new) }
-    ensures failed { result.whole ≡ false → IsSome result.failure }
+// Reads until the input ends or the room is full, and answers how many bytes that are. How many calls it takes is for the reader to say, so nothing is
+// counted.
+pub fn read_input<R: Read>(reader: &mut R, space: &mut [u8]) -> Result<usize, Error>
+    ensures within { IfOk result (λ len. len ≤ length space.new) }
+    ensures bytes { IfOk result (λ len. Consumes (R.remaining reader.old) (R.remaining reader.new) (take len space.new)) }
+    ensures end { IfOk result (λ len. len < length space.new → IsAtEnd (R.remaining reader.new)) }
 {
     let mut done: usize = 0;
     let mut patience = PATIENCE;
     while done < space.len() {
         match reader.read(&mut space[done..]) {
-            Ok(0) => {
-                return Input {
-                    len: done,
-                    whole: true,
-                    failure: None,
-                };
-            }
+            Ok(0) => return Ok(done),
             Ok(more) => done += more,
             Err(error) => {
                 if patience == 0 || !interrupted(&error) {
-                    return Input {
-                        len: 0,
-                        whole: false,
-                        failure: Some(error),
-                    };
+                    return Err(error);
                 }
                 patience -= 1;
             }
         }
     }
-    Input {
-        len: space.len(),
-        whole: true,
-        failure: None,
-    }
+    Ok(space.len())
 }
 
-// What writing came to: how many bytes were taken, fewer than all where a write failed, and why it did.
+// A text of which a write failed: how many of its bytes were taken before, and why it failed.
 #[derive(Clone, Copy)]
-pub struct Output {
+pub struct Unwritten {
     pub taken: usize,
-    pub failure: Option<Error>,
+    pub error: Error,
 }
 
-// Writes the text, and answers how many of its bytes were taken.
-pub fn write_text<W: Write>(writer: &mut W, text: &[u8]) -> Output
-    ensures within { result.taken ≤ length text.now }
-    ensures bytes { Appends (W.contents writer.old) (W.contents writer.new) (take result.taken text.now) }
-    ensures failed { result.taken < length text.now → IsSome result.failure }
+// Writes the text, all of it unless a write fails. How many calls it takes is for the writer to say, so nothing is counted.
+pub fn write_text<W: Write>(writer: &mut W, text: &[u8]) -> Result<(), Unwritten>
+    ensures whole { IfOk result (λ _. Appends (W.contents writer.old) (W.contents writer.new) text.now) }
+    ensures within { IfErr result (λ failed. failed.taken < length text.now) }
+    ensures part { IfErr result (λ failed. Appends (W.contents writer.old) (W.contents writer.new) (take failed.taken text.now)) }
 {
     let mut taken: usize = 0;
     let mut patience = PATIENCE;
     while taken < text.len() {
         match writer.write(&text[taken..]) {
             Ok(0) => {
-                return Output {
+                return Err(Unwritten {
                     taken,
-                    failure: Some(Error::from(ErrorKind::WriteZero)),
-                };
+                    error: Error::from(ErrorKind::WriteZero),
+                });
             }
             Ok(more) => taken += more,
             Err(error) => {
                 if patience == 0 || !interrupted(&error) {
-                    return Output {
-                        taken,
-                        failure: Some(error),
-                    };
+                    return Err(Unwritten { taken, error });
                 }
                 patience -= 1;
             }
         }
     }
-    Output {
-        taken: text.len(),
-        failure: None,
-    }
+    Ok(())
 }
 
 // Says on standard error what failed, and why, in the system's words.
-pub fn fail<R: Eprint + Alloc>(rt: &R, what: &str, failure: &Option<Error>) {
-    let _ = match failure {
-        None => eprintln!(rt; "{what}"),
-        Some(error) => match format!(in rt.alloc(); "{error}") {
-            Ok(text) => rt.eprintln(format_args!("{what}: {}", reason(text.as_str()))),
-            Err(_) => eprintln!(rt; "{what}: {error}"),
-        },
+pub fn fail<R: Eprint + Alloc>(rt: &R, what: &str, error: &Error) {
+    let _ = match format!(in rt.alloc(); "{error}") {
+        Ok(text) => rt.eprintln(format_args!("{what}: {}", reason(text.as_str()))),
+        Err(_) => eprintln!(rt; "{what}: {error}"),
     };
 }
 

@@ -21,8 +21,8 @@ use Rattle.index.specs.Good.{good_of}
 use Rattle.lists.specs.Part.{none}
 use Rattle.lists.specs.Lists.{span_in, span_for}
 use Rattle.lists.proofs.Spans.{span_within}
-use Rattle.search.specs.declared.Answer.{Answer}
-use Rattle.search.specs.declared.Answer.TheVariants.{Found, Refused}
+use Rattle.search.specs.Answers.{Answer}
+use Rattle.search.specs.Answers.{Found, Refused}
 use Rattle.sizes.specs.Method.{touches_of, answers_of}
 use Rattle.search.specs.Answers.{rows_in, touches_in, refusal_of, search_good_of, search_of, Columns, room_of, columns_of, columns_over, columns_after}
 use Rattle.rows.specs.declared.Row.{Row}
@@ -31,7 +31,7 @@ use Rattle.rows.proofs.Laws.{rows_refused}
 use Rattle.search.proofs.Outcomes.{refused_gives}
 use Rattle.weeks.specs.Pairs.{Columns as Pairs, room_of as pairRoom}
 use Rattle.importer.specs.declared.Settings.{Settings}
-use Rattle.importer.specs.declared.Imported.{Imported}
+use Rattle.importer.specs.Import.{Imported}
 use Rattle.importer.specs.Import.{Outcomes, outcome_room, imported_of, outcomes_after, pairs_after}
 use Rattle.importer.proofs.Whole.{imported_cases}
 use Rattle.importer.proofs.Wholes.{wholes}

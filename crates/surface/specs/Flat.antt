@@ -2,14 +2,14 @@
 -- Cited by every contract of the crate. What the answers are is in the specs of register, index, search, queries, importer, fields, frames and log_frames.
 -- Assumes nothing.
 use Rattle.std.specs.Prelude.{get_or}
-use Rattle.fields.specs.declared.Reading.{Reading}
-use Rattle.fields.specs.declared.Written.{Written}
+use Rattle.fields.specs.Layouts.{Reading}
+use Rattle.fields.specs.Layouts.{Written}
 use Rattle.lists.specs.Part.{Span}
-use Rattle.register.specs.declared.Built.{Built}
-use Rattle.search.specs.declared.Answer.{Answer}
+use Rattle.register.specs.Build.{Built}
+use Rattle.search.specs.Answers.{Answer}
 use Rattle.search.specs.Answers.{number_in, rows_in, touches_in, threshold_p, threshold_q}
-use Rattle.queries.specs.declared.Come.{Come}
-use Rattle.importer.specs.declared.Imported.{Imported}
+use Rattle.queries.specs.Queries.{Come}
+use Rattle.importer.specs.Import.{Imported}
 use Rattle.surface.specs.declared.BuildAnswer.{BuildAnswer}
 use Rattle.surface.specs.declared.ListAnswer.{ListAnswer}
 use Rattle.surface.specs.declared.SearchAnswer.{SearchAnswer}

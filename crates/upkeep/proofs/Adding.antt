@@ -116,6 +116,10 @@ module _ {w : List ℕ} {id place : ℕ} {fs : List ℕ} (a : Addable w id place
   pub cuts_room : length (cuts_for w id fs) ≤ most_moved
   cuts_room = let n = many_cuts in let c = cuts_most (length fs) (all_rows_in w) fs in let s = a.fit.most in omega arith
 
+  -- of m words that come in
+  pub few_moved : (m : ℕ) → m ≡ length (cuts_for w id fs) → (total w + m ≤ 4294967295) × (m ≤ most_moved) × (length fs < m)
+  few_moved m e = let t = total_small in let r = cuts_room in let n = many_cuts in (omega arith, omega arith, omega arith)
+
   pub length_seats : (seats : List ℕ) → seats ≡ posting_cuts (length fs) id (all_rows_in w) fs → length seats ≡ length fs
   length_seats seats e = ap length e ∙ length_posting_cuts (length fs) id (all_rows_in w) fs
 

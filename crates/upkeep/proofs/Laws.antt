@@ -1,11 +1,12 @@
 -- Laws of live ids: an id is live exactly if it is at its seat among the names' ids.
 -- Assumes nothing.
-use mathlib.Core.Path.{◌≡◌, ap, ◌∙◌}
+use mathlib.Core.Path.{◌≡◌, sym, ap, ◌∙◌}
 use mathlib.Core.Bool.{true, false}
 use mathlib.Core.List.{List}
 use Prim.Native.Nat.{ℕ}
 use Rattle.laws.specs.Lists.{member}
 use Rattle.laws.proofs.Images.{map_tabulate}
+use Rattle.binary_search.specs.declared.Seat.{Seat}
 use Rattle.binary_search.specs.declared.Seat.TheVariants.{At, Before}
 use Rattle.binary_search.specs.Seats.{seat_of}
 use Rattle.binary_search.proofs.Seats.{seat_there, seat_missing}
@@ -27,3 +28,7 @@ module _ (w : List ℕ) (id i : ℕ) where
 
   pub seat_unused : seat_of (ids_in w) id ≡ Before i → is_live w id ≡ false
   seat_unused e = ap (member id) (ids_in_lem w) ∙ (seat_missing (ids_in w) id i e).0
+
+-- what a seat that was sought for an id under another number tells
+pub sought : (ids : List ℕ) (n id : ℕ) (s t : Seat) → n ≡ id → s ≡ seat_of ids n → s ≡ t → seat_of ids id ≡ t
+sought ids n id s t e f g = ap (seat_of ids) (sym e) ∙ sym f ∙ g

@@ -2,8 +2,9 @@
 // definitions: specs/. Where words go or stand is worked out before any is moved, so that a refusal changes none; then all move in one pass.
 #![tactic(auto)]
 
-ghost use Rattle.std.specs.Prelude.{◌≡◌, cond, ◌++◌, map, ℕ, ◌+◌, ◌*◌, ◌^◌, ◌≤◌, ◌<◌, length, get_or, take, replicate};
+ghost use Rattle.std.specs.Prelude.{◌≡◌, cond, ◌++◌, map, ℕ, ◌+◌, ◌*◌, ◌^◌, ◌≤◌, ◌<◌, length, get_or, take};
 ghost use Rattle.laws.specs.Sort.{sort_of};
+ghost use Rattle.refusals.specs.Refusals.{outcome_number};
 ghost use Rattle.names.specs.Names.{judge_of};
 ghost use Rattle.names.specs.Features.{features_of, most_features};
 ghost use Rattle.words.specs.Words.{name_count, name_id};
@@ -13,6 +14,7 @@ ghost use Rattle.upkeep.specs.Upkeep.{changed_if, added_of, words_added, index_w
 ghost use Rattle.upkeep.specs.Adding.{most_moved, Addable, index_for, cuts_for, words_for};
 
 use binary_search::Seat;
+use refusals::Refusal;
 
 // The most words that a change puts in or takes out: a name's, and for each feature those of a row and one posting.
 pub const MOST_MOVED: usize = words::NAME_WIDTH
@@ -22,13 +24,11 @@ pub const MOST_MOVED: usize = words::NAME_WIDTH
 
 // Copies features, which fit 32 bits.
 fn narrow(items: &[u64], out: &mut [u32])
-    requires { (length out.old ≤ length items.now) × ((i : ℕ) → i < length out.old → get_or items.now i 0 < 2 ^ 32) }
-    ensures { out.new ≡ take (length out.old) items.now }
+    requires { (length out.old ≡ length items.now) × ((i : ℕ) → i < length items.now → get_or items.now i 0 < 2 ^ 32) }
+    ensures { out.new ≡ items.now }
 {
-    let mut i = 0;
-    while i < out.len() {
-        out[i] = items[i] as u32;
-        i += 1;
+    for (i, item) in items.iter().enumerate() {
+        out[i] = *item as u32;
     }
 }
 
@@ -43,7 +43,7 @@ fn sorted_features(name: &[u8], out: &mut [u32]) -> usize
     let mut items = set.items;
     let mut spare = [0u64; names::FeatureSet::CAPACITY];
     sorting::sort(&mut items[..k], &mut spare[..k]);
-    narrow(&items, &mut out[..k]);
+    narrow(&items[..k], &mut out[..k]);
     k
 }
 
@@ -52,21 +52,8 @@ fn put_postings(postings: &[u32], first: usize, at: &mut [u32], n: usize)
     requires { (n + length postings.now ≤ length at.old) × ((i : ℕ) → i < length postings.now → first + get_or postings.now i 0 < 2 ^ 32) }
     ensures { take (n + length postings.now) at.new ≡ take n at.old ++ map (λ (p : ℕ). first + p) postings.now }
 {
-    let mut j = 0;
-    while j < postings.len() {
-        at[n + j] = (first + postings[j] as usize) as u32;
-        j += 1;
-    }
-}
-
-// Sets every value to the id.
-fn put_ids(id: u32, values: &mut [u32])
-    ensures { values.new ≡ replicate (length values.old) id }
-{
-    let mut j = 0;
-    while j < values.len() {
-        values[j] = id;
-        j += 1;
+    for (j, posting) in postings.iter().enumerate() {
+        at[n + j] = (first + *posting as usize) as u32;
     }
 }
 
@@ -91,11 +78,11 @@ fn put_words(
     let rows = seats::put_seats(words, id, features, at, values, 1, postings);
     let many = rows + k;
     put_postings(postings, words::postings_start(words), at, rows);
-    put_ids(id, &mut values[rows..many]);
+    values[rows..many].fill(id);
     many
 }
 
-// Adds a name of an id that is not live, with tables that are lent: 8 where the index that would result does not fit, and otherwise 0.
+// Adds a name of an id that is not live, with tables that are lent. Refuses it where the index that would result does not fit.
 fn add_with(
     words: &mut [u32],
     id: u32,
@@ -104,9 +91,9 @@ fn add_with(
     at: &mut [u32],
     values: &mut [u32],
     postings: &mut [u32],
-) -> u8
+) -> Result<(), Refusal>
     requires { Addable words.old id place features.now × (most_moved ≤ length at.old) × (most_moved ≤ length values.old) × (length postings.old ≡ length features.now) }
-    ensures { (result ≡ cond (fits_in (length words.old) (index_for words.old id features.now)) 0 8) × (words.new ≡ changed_if result (index_for words.old id features.now) words.old) }
+    ensures { (outcome_number result ≡ cond (fits_in (length words.old) (index_for words.old id features.now)) 0 8) × (words.new ≡ changed_if (outcome_number result) (index_for words.old id features.now) words.old) }
 {
     let k = features.len();
     let many = put_words(words, id, place, features, at, values, postings);
@@ -115,33 +102,30 @@ fn add_with(
     let p = words::posting_count(words);
     let total = words::postings_start(words) + p;
     if words.len() < total + many {
-        return 8;
+        return Err(Refusal::NoRoom);
     }
     splicing::put_in(words, total, &at[..many], &values[..many]);
     let new = (many - 1 - k) / words::ROW_WIDTH;
     settling::settle(words, n + 1, d + new, p + k, k as u32, features);
-    0
+    Ok(())
 }
 
-// Adds a name under an id. 6 where the words are no good index; then 1, 2, 3 and 12 for a bad name; 9 where the id is live, 10 where 256 names are,
-// 8 where the index that would result does not fit; and otherwise 0. A refusal changes no word.
-pub fn add(words: &mut [u32], id: u16, name: &[u8]) -> u8
-    ensures { (result ≡ added_of words.old id name.now) × (words.new ≡ words_added words.old id name.now) }
+// Adds a name under an id. Refused first where the words are no good index; then for a bad name; where the id is live, where 256 names are, and where the
+// index that would result does not fit. A refusal changes no word.
+pub fn add(words: &mut [u32], id: u16, name: &[u8]) -> Result<(), Refusal>
+    ensures { (outcome_number result ≡ added_of words.old id name.now) × (words.new ≡ words_added words.old id name.now) }
 {
     if !index::good(words) {
-        return 6;
+        return Err(Refusal::BadIndex);
     }
-    let number = names::judge(name);
-    if number != 0 {
-        return number;
-    }
-    let wide = id as u32;
+    names::judge(name)?;
+    let wide = u32::from(id);
     let seat = index::name_seat(words, wide);
     let Seat::Before(place) = seat else {
-        return 9;
+        return Err(Refusal::TakenId);
     };
     if words::name_count(words) == index::MOST_NAMES {
-        return 10;
+        return Err(Refusal::TooMany);
     }
     let mut features = [0u32; names::FeatureSet::CAPACITY];
     let k = sorted_features(name, &mut features);
@@ -182,20 +166,20 @@ fn withdraw_with(words: &mut [u32], id: u32, place: usize, at: &mut [u32], posti
     settling::settle(words, n - 1, d - empty, p - k, size, &postings[..0]);
 }
 
-// Withdraws an id. 6 where the words are no good index, then 13 where the id is not live, and otherwise 0. A refusal changes no word.
-pub fn withdraw(words: &mut [u32], id: u16) -> u8
-    ensures { (result ≡ withdrawn_of words.old id) × (words.new ≡ words_withdrawn words.old id) }
+// Withdraws an id. Refused where the words are no good index, then where the id is not live. A refusal changes no word.
+pub fn withdraw(words: &mut [u32], id: u16) -> Result<(), Refusal>
+    ensures { (outcome_number result ≡ withdrawn_of words.old id) × (words.new ≡ words_withdrawn words.old id) }
 {
     if !index::good(words) {
-        return 6;
+        return Err(Refusal::BadIndex);
     }
-    let wide = id as u32;
+    let wide = u32::from(id);
     let seat = index::name_seat(words, wide);
     let Seat::At(place) = seat else {
-        return 13;
+        return Err(Refusal::NotLive);
     };
     let mut at = [0u32; MOST_MOVED];
     let mut postings = [0u32; names::FeatureSet::CAPACITY];
     withdraw_with(words, wide, place, &mut at, &mut postings);
-    0
+    Ok(())
 }

@@ -20,10 +20,8 @@ fn put_places(place: usize, at: &mut [u32], n: usize)
     requires { (place + row_width ≤ 2 ^ 32) × (n + row_width ≤ length at.old) }
     ensures { at.new ≡ sets at.old n (place ∷ (place + 1) ∷ (place + 2) ∷ (place + 3) ∷ []) }
 {
-    at[n] = place as u32;
-    at[n + 1] = (place + 1) as u32;
-    at[n + 2] = (place + 2) as u32;
-    at[n + 3] = (place + 3) as u32;
+    let word = place as u32;
+    at[n..n + words::ROW_WIDTH].copy_from_slice(&[word, word + 1, word + 2, word + 3]);
 }
 
 // How many places of rows' words and how many places among the postings there are.
@@ -96,12 +94,10 @@ pub fn note_rows(
     let d = words::row_count(words);
     let mut m = n;
     let mut k = 0;
-    let mut r = 0;
-    while r < d {
+    for r in 0..d {
         let noted = note_row(words, r, id, size, at, m, postings, k);
         m = noted.rows;
         k = noted.postings;
-        r += 1;
     }
     Noted {
         rows: m,

@@ -8,6 +8,8 @@ use Prim.Native.Nat.{ℕ, ◌+◌, ◌<◌}
 use native.Mathlib.Omega.{arith}
 use lib.Dec.{eqb}
 use borrow.Author.Tests.{eq-eqb, ne_eqb}
+use Rattle.std.proofs.Common.{Option, Some, None}
+use Rattle.std.specs.Option.{option_map_or}
 use Rattle.laws.specs.Lists.{member, Distinct, Ascending, sum_of}
 use Rattle.laws.specs.Sort.{sort_of}
 use Rattle.laws.proofs.Lists.{member_append}
@@ -15,7 +17,7 @@ use Rattle.laws.proofs.Tests.{same_test}
 use Rattle.laws.proofs.Members.{member_head, member_tail, member_cases, member_left, member_append_cases, member_one, member_map, member_map_place}
 use Rattle.laws.proofs.Sums.{sum_sort}
 use Rattle.laws.proofs.Sort.{ascending_sort, ascending_snoc, ascending_unique, member_sort}
-use Rattle.weeks.specs.Pairs.{missing, pair_in, reading_in, once_of, pairs_of, amount, tally, sum_for, count_for, columns_of}
+use Rattle.weeks.specs.Pairs.{missing, pair_in, reading_in, present, once_of, pairs_of, amount, tally, sum_for, count_for, columns_of}
 
 -- ---- each number once
 
@@ -122,6 +124,15 @@ unfolding tally
 tally_missing k e m = rw (eq-eqb (reading_in e) missing m) (by_test (eqb (pair_in e) k))
   where
     by_test : (b : Bool) → ◌≡◌ {A = ℕ} (cond (b && false) 1 0) 0
+    by_test true = refl
+    by_test false = refl
+
+-- f of the reading, where there is one
+pub added : (f : ℕ → ℕ) (e : ℕ) (o : Option ℕ) (n : ℕ) → o ≡ cond (present e) (Some (reading_in e)) None → n ≡ option_map_or f o 0
+    → n ≡ cond (eqb (pair_in e) (pair_in e) && present e) (f (reading_in e)) 0
+added f e o n p q = rw (eq-eqb (pair_in e) (pair_in e) refl) (q ∙ ap (λ (x : Option ℕ). option_map_or f x 0) p ∙ by_test (present e))
+  where
+    by_test : (b : Bool) → option_map_or f (cond b (Some (reading_in e)) None) 0 ≡ cond b (f (reading_in e)) 0
     by_test true = refl
     by_test false = refl
 

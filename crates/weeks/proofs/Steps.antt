@@ -264,7 +264,7 @@ put_step s o i h f f' a e r = by_test (first_at s i) refl
 
 -- ---- bounds
 
-amount_most : (k e : ℕ) → amount k e ≤ 65535
+pub amount_most : (k e : ℕ) → amount k e ≤ 65535
 unfolding amount
 amount_most k e = by_test (eqb (pair_in e) k && present e)
   where
@@ -272,7 +272,7 @@ amount_most k e = by_test (eqb (pair_in e) k && present e)
     by_test true = omega arith
     by_test false = omega arith
 
-tally_most : (k e : ℕ) → tally k e ≤ 1
+pub tally_most : (k e : ℕ) → tally k e ≤ 1
 unfolding tally
 tally_most k e = by_test (eqb (pair_in e) k && present e)
   where

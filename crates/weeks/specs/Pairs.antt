@@ -1,10 +1,11 @@
 -- Readings by id and week. An entry is a reading that belongs to an id in a week; a pair is an id and a week. Which pairs there are, and the sum and the
 -- count of the readings of each, over the entries in any order.
 -- Assumes nothing.
-use Rattle.std.specs.Prelude.{Bool, cond, not, ◌&&◌, List, [], ◌∷◌, ◌++◌, map, ℕ, ◌+◌, ◌*◌, ◌/◌, ◌%◌, min, length, drop, eqb, leb}
+use Rattle.std.specs.Prelude.{Bool, cond, not, ◌&&◌, List, [], ◌∷◌, ◌++◌, map, Result, Ok, Err, ℕ, ◌+◌, ◌*◌, ◌/◌, ◌%◌, min, length, drop, eqb, leb}
 use Rattle.laws.specs.Lists.{member, sum_of}
 use Rattle.laws.specs.Sort.{sort_of}
-use Rattle.weeks.specs.declared.Paired.{Paired}
+use Rattle.refusals.specs.declared.Refusal.{Refusal}
+use Rattle.refusals.specs.Refusals.{refusal_number}
 
 -- ---- an entry
 
@@ -109,6 +110,15 @@ columns_over given c =
     }
 
 -- ---- the answer
+
+-- what writing pairs answers: its number, and how many there are; and what the code answers, so set out
+pub record Paired : Type 0 where
+  pub number : ℕ
+  pub pairs : ℕ
+
+abbrev pub paired_in : Result ℕ Refusal → Paired
+paired_in (Ok n) = record { number = 0; pairs = n }
+paired_in (Err r) = record { number = refusal_number r; pairs = 0 }
 
 -- whether the pairs have room
 abbrev pub fits : List ℕ → ℕ → Bool

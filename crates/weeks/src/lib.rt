@@ -2,17 +2,12 @@
 // The definitions: specs/.
 #![tactic(auto)]
 
-ghost use Rattle.std.specs.Prelude.{◌≡◌, ◌+◌, ◌*◌, ◌≤◌, ◌<◌, min, length, get_or, set};
+ghost use Rattle.std.specs.Prelude.{◌≡◌, ◌+◌, ◌*◌, ◌≤◌, ◌<◌, cond, Some, None, length, get_or, set};
 ghost use Rattle.laws.specs.Sort.{sort_of, Sorted};
-ghost use Rattle.weeks.specs.Pairs.{week_of, pair_of, entry_of, id_in, week_in, pair_in, amount, tally, pairs_of, as_columns, room_of, columns_of, columns_over, paired_of, columns_after};
+ghost use Rattle.weeks.specs.Pairs.{week_of, pair_of, entry_of, id_in, week_in, pair_in, reading_in, present, amount, tally, pairs_of, as_columns, room_of, columns_of, columns_over, paired_in, paired_of, columns_after};
 ghost use Rattle.weeks.specs.Steps.{first_at, with_entry};
 
-// What writing pairs answers: its number, and how many there are.
-#[derive(Clone, Copy)]
-pub struct Paired {
-    pub number: u8,
-    pub pairs: u32,
-}
+use refusals::Refusal;
 
 // How many pairs there are so far, and the sum and count of the last of them.
 #[derive(Clone, Copy)]
@@ -27,7 +22,7 @@ pub fn entry(id: u32, day: u16, reading: u16) -> u64
     ensures { result ≡ entry_of (pair_of id (week_of day)) reading }
 {
     let week = day / 7;
-    (id as u64 * 65536 + week as u64) * 65536 + reading as u64
+    (u64::from(id) * 65536 + u64::from(week)) * 65536 + u64::from(reading)
 }
 
 // Whether the entry at `i` has another pair than the one before it.
@@ -35,31 +30,31 @@ fn first_at(entries: &[u64], i: usize) -> bool
     requires { i < length entries.now }
     ensures { result ≡ first_at entries.now i }
 {
-    if i == 0 {
-        return true;
+    i == 0 || entries[i] / 65536 != entries[i - 1] / 65536
+}
+
+// The reading of an entry, where it has one.
+fn reading_in(entry: u64) -> Option<u16>
+    ensures { result ≡ cond (present entry) (Some (reading_in entry)) None }
+{
+    match (entry % 65536) as u16 {
+        u16::MAX => None,
+        reading => Some(reading),
     }
-    entries[i] / 65536 != entries[i - 1] / 65536
 }
 
 // What an entry adds to the sum of its pair.
 fn amount_of(entry: u64) -> u32
     ensures { (result ≡ amount (pair_in entry) entry) × (result ≤ 65535) }
 {
-    let reading = entry % 65536;
-    if reading == 65535 {
-        return 0;
-    }
-    reading as u32
+    reading_in(entry).map_or(0, u32::from)
 }
 
 // What an entry adds to the count of its pair.
 fn tally_of(entry: u64) -> u32
     ensures { (result ≡ tally (pair_in entry) entry) × (result ≤ 1) }
 {
-    if entry % 65536 == 65535 {
-        return 0;
-    }
-    1
+    reading_in(entry).map_or(0, |_| 1)
 }
 
 // Takes the entry at `i` in.
@@ -91,10 +86,8 @@ fn count_pairs(entries: &[u64]) -> usize
         sum: 0,
         count: 0,
     };
-    let mut i = 0;
-    while i < entries.len() {
+    for i in 0..entries.len() {
         t = with_entry(entries, i, t);
-        i += 1;
     }
     t.pairs
 }
@@ -135,22 +128,14 @@ fn put_pairs(
         sum: 0,
         count: 0,
     };
-    let mut i = 0;
-    while i < entries.len() {
+    for (i, entry) in entries.iter().enumerate() {
         t = with_entry(entries, i, t);
-        put_pair(t.pairs - 1, entries[i], t, ids, weeks, sums, counts);
-        i += 1;
+        put_pair(t.pairs - 1, *entry, t, ids, weeks, sums, counts);
     }
 }
 
-// The smaller of two lengths.
-fn shorter(a: usize, b: usize) -> usize
-    ensures { (result ≤ a) × (result ≤ b) × (result ≡ min a b) }
-{
-    if a < b { a } else { b }
-}
-
-// Writes the pairs of entries at the start of the columns, where they have room. The entries are sorted then; `spare` is as long, and is written over.
+// Writes the pairs of entries at the start of the columns, where they have room, and answers how many there are. The entries are sorted then; `spare` is
+// as long, and is written over.
 pub fn pairs(
     entries: &mut [u64],
     spare: &mut [u64],
@@ -158,27 +143,18 @@ pub fn pairs(
     weeks: &mut [u32],
     sums: &mut [u32],
     counts: &mut [u32],
-) -> Paired
+) -> Result<u32, Refusal>
     requires { (length spare.old ≡ length entries.old) × (length entries.old ≤ 1024) }
-    ensures value { result ≡ paired_of entries.old (room_of (as_columns ids.old weeks.old sums.old counts.old)) }
+    ensures value { paired_in result ≡ paired_of entries.old (room_of (as_columns ids.old weeks.old sums.old counts.old)) }
     ensures counts_after { as_columns ids.new weeks.new sums.new counts.new ≡ columns_after entries.old (as_columns ids.old weeks.old sums.old counts.old) }
     ensures entries_after { entries.new ≡ sort_of entries.old }
 {
     sorting::sort(entries, spare);
     let n = count_pairs(entries);
-    let room = shorter(
-        shorter(ids.len(), weeks.len()),
-        shorter(sums.len(), counts.len()),
-    );
+    let room = ids.len().min(weeks.len()).min(sums.len()).min(counts.len());
     if room < n {
-        return Paired {
-            number: 8,
-            pairs: 0,
-        };
+        return Err(Refusal::NoRoom);
     }
     put_pairs(entries, ids, weeks, sums, counts);
-    Paired {
-        number: 0,
-        pairs: n as u32,
-    }
+    Ok(n as u32)
 }

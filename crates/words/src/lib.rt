@@ -32,18 +32,12 @@ pub const PLACE_COLUMN: usize = 2;
 
 pub const LENGTH_COLUMN: usize = 3;
 
-fn wide(x: u32) -> usize
-    ensures { (result ≡ x) × (result < 4294967296) }
-{
-    x as usize
-}
-
 // N, how many names.
 pub fn name_count(words: &[u32]) -> usize
     requires { head_width ≤ length words.now }
     ensures { (result ≡ name_count words.now) × (result < 4294967296) }
 {
-    wide(words[NAME_COUNT_AT])
+    words[NAME_COUNT_AT] as usize
 }
 
 // D, how many rows.
@@ -51,7 +45,7 @@ pub fn row_count(words: &[u32]) -> usize
     requires { head_width ≤ length words.now }
     ensures { (result ≡ row_count words.now) × (result < 4294967296) }
 {
-    wide(words[ROW_COUNT_AT])
+    words[ROW_COUNT_AT] as usize
 }
 
 // P, how many postings.
@@ -59,7 +53,7 @@ pub fn posting_count(words: &[u32]) -> usize
     requires { head_width ≤ length words.now }
     ensures { (result ≡ posting_count words.now) × (result < 4294967296) }
 {
-    wide(words[POSTING_COUNT_AT])
+    words[POSTING_COUNT_AT] as usize
 }
 
 // The id of name i.
@@ -83,7 +77,7 @@ pub fn row_start(words: &[u32], r: usize) -> usize
     requires { (head_width ≤ length words.now) × (row_width * r < 2 ^ 63) }
     ensures { (result ≡ row_start words.now r) × (result ≤ name_start 4294967295 + row_width * r) }
 {
-    NAMES_START + NAME_WIDTH * wide(words[NAME_COUNT_AT]) + ROW_WIDTH * r
+    NAMES_START + NAME_WIDTH * name_count(words) + ROW_WIDTH * r
 }
 
 // Where the postings start.
@@ -115,7 +109,7 @@ pub fn row_feature(words: &[u32], r: usize) -> u64
     requires { row_start words.now r + row_width ≤ length words.now }
     ensures { (result ≡ row_feature words.now r) × (result < 4294967296) }
 {
-    row_word(words, r, FEATURE_COLUMN) as u64
+    u64::from(row_word(words, r, FEATURE_COLUMN))
 }
 
 // Where row r's list starts among the postings.
@@ -123,7 +117,7 @@ pub fn row_place(words: &[u32], r: usize) -> usize
     requires { row_start words.now r + row_width ≤ length words.now }
     ensures { (result ≡ row_place words.now r) × (result < 4294967296) }
 {
-    wide(row_word(words, r, PLACE_COLUMN))
+    row_word(words, r, PLACE_COLUMN) as usize
 }
 
 // How many ids row r's list has.
@@ -131,7 +125,7 @@ pub fn row_length(words: &[u32], r: usize) -> usize
     requires { row_start words.now r + row_width ≤ length words.now }
     ensures { (result ≡ row_length words.now r) × (result < 4294967296) }
 {
-    wide(row_word(words, r, LENGTH_COLUMN))
+    row_word(words, r, LENGTH_COLUMN) as usize
 }
 
 // The size and the feature of row r as one number.
@@ -139,7 +133,7 @@ pub fn row_key(words: &[u32], r: usize) -> u64
     requires { row_start words.now r + row_width ≤ length words.now }
     ensures { result ≡ row_key words.now r }
 {
-    row_size(words, r) as u64 * 4294967296 + row_feature(words, r)
+    u64::from(row_size(words, r)) * 4294967296 + row_feature(words, r)
 }
 
 // ---- rows cut out of the words
@@ -164,7 +158,7 @@ pub fn part_feature(rows: &[u32], r: usize) -> u64
     requires { r < part_rows rows.now }
     ensures { result ≡ part_feature rows.now r }
 {
-    part_word(rows, r, FEATURE_COLUMN) as u64
+    u64::from(part_word(rows, r, FEATURE_COLUMN))
 }
 
 // Where the list of row r of it starts among the postings.
@@ -172,7 +166,7 @@ pub fn part_place(rows: &[u32], r: usize) -> usize
     requires { r < part_rows rows.now }
     ensures { (result ≡ part_place rows.now r) × (result < 4294967296) }
 {
-    wide(part_word(rows, r, PLACE_COLUMN))
+    part_word(rows, r, PLACE_COLUMN) as usize
 }
 
 // How many ids the list of row r of it has.
@@ -180,5 +174,5 @@ pub fn part_length(rows: &[u32], r: usize) -> usize
     requires { r < part_rows rows.now }
     ensures { (result ≡ part_length rows.now r) × (result < 4294967296) }
 {
-    wide(part_word(rows, r, LENGTH_COLUMN))
+    part_word(rows, r, LENGTH_COLUMN) as usize
 }

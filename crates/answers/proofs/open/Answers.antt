@@ -1,6 +1,7 @@
 -- `open` meets its contract.
 use mathlib.Core.Path.{sym, ◌∙◌}
 use lib.Seq.{length-take-le}
+use Rattle.register.specs.Build.{built_in}
 use Rattle.answers.proofs.Input.{opened_much, words_much, opened_built, words_built}
 use Rattle.answers.proofs.open.Goals as goal
 
@@ -25,7 +26,7 @@ returns c =
     let b = c.build-built in
     record {
       value =
-          opened_built a.input.now a.words.now e.result b.result few e.ensures.0 b.ensures.0;
+          opened_built a.input.now a.words.now e.result (built_in b.result) few e.ensures.0 b.ensures.0;
       words_after =
           words_built a.input.now a.words.now e.result b.new.words few e.ensures.0 b.ensures.1;
     }

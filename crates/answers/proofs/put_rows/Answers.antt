@@ -1,7 +1,7 @@
 -- `put_rows` meets its contract: in front stand the lines of the rows so far.
 use mathlib.Core.Path.{◌≡◌, ap, ◌∙◌}
 use mathlib.Core.List.{List, ◌++◌}
-use Prim.Native.Nat.{ℕ, ◌+◌, ◌*◌}
+use Prim.Native.Nat.{ℕ, ◌+◌, ◌*◌, ◌<◌}
 use native.Mathlib.Omega.{arith}
 use lib.ListN.{length, take, drop}
 use Rattle.search.specs.Answers.{as_columns}
@@ -12,90 +12,43 @@ use Rattle.answers.proofs.Text.{row_even}
 use Rattle.answers.proofs.put_rows.Goals as goal
 
 pub loop-k-init : goal.loop-k-init
-loop-k-init c =
-    let a = c.args in
-    let r = as_columns a.ids.now a.shared.now a.sizes.now a.least.now in
-    (omega arith, texts_none (row_text r) row_line_length (row_even r) a.out.now)
-
-pub bounds-ids-k : goal.bounds-ids-k
-bounds-ids-k c =
-    let t = c.loop-k-test.true in
-    let h = c.requires.0.in_ids in
-    omega arith
-
-pub bounds-shared-k : goal.bounds-shared-k
-bounds-shared-k c =
-    let t = c.loop-k-test.true in
-    let h = c.requires.0.in_shared in
-    omega arith
-
-pub bounds-sizes-k : goal.bounds-sizes-k
-bounds-sizes-k c =
-    let t = c.loop-k-test.true in
-    let h = c.requires.0.in_sizes in
-    omega arith
-
-pub bounds-least-k : goal.bounds-least-k
-bounds-least-k c =
-    let t = c.loop-k-test.true in
-    let h = c.requires.0.in_least in
-    omega arith
+loop-k-init c = let a = c.args in texts_none (row_text (as_columns a.ids.now a.shared.now a.sizes.now a.least.now)) row_line_length (row_even (as_columns a.ids.now a.shared.now a.sizes.now a.least.now)) a.out.now
 
 pub put_row-requires : goal.put_row-requires
 put_row-requires c =
     let a = c.args in
     let l = c.loop-k in
-    let t = c.loop-k-test.true in
     let p = c.requires.0 in
     let few = p.few in
     let n = c.requires.1 in
+    let t : l.k < length a.ids.now = omega arith in
     let r = as_columns a.ids.now a.shared.now a.sizes.now a.least.now in
-    let e = ap length l.invariant.1 ∙ length_kept (row_text r) row_line_length (row_even r) a.out.now l.k (omega arith) in
+    let e = ap length l.invariant ∙ length_kept (row_text r) row_line_length (row_even r) a.out.now l.k (omega arith) in
     (p.id l.k t, p.share l.k t, p.size l.k t, p.least l.k t, omega arith, omega arith)
-
-pub overflow_add-k : goal.overflow_add-k
-overflow_add-k c =
-    let t = c.loop-k-test.true in
-    let few = c.requires.0.few in
-    omega arith
-
-pub loop-k-smaller : goal.loop-k-smaller
-loop-k-smaller c =
-    let t = c.loop-k-test.true in
-    omega arith
 
 pub loop-k-preserved : goal.loop-k-preserved
 loop-k-preserved c =
     let a = c.args in
     let l = c.loop-k in
-    let t = c.loop-k-test.true in
-    let n = c.requires.1 in
-    let k = l.k in
     let r = as_columns a.ids.now a.shared.now a.sizes.now a.least.now in
-    let line = row_text r c.loop-k.k in (
-      omega arith,
-      c.put_row.ensures
-          ∙ ap (λ (s : List ℕ). take (row_line_length * c.loop-k.k) s ++ (line ++ drop (row_line_length * c.loop-k.k + row_line_length) s)) l.invariant.1
-          ∙ texts_more (row_text r) row_line_length (row_even r) a.out.now c.loop-k.k,
-    )
+    let line = row_text r l.k in
+    c.put_row.ensures
+    ∙ ap (λ (s : List ℕ). take (row_line_length * l.k) s ++ (line ++ drop (row_line_length * l.k + row_line_length) s)) l.invariant
+    ∙ texts_more (row_text r) row_line_length (row_even r) a.out.now l.k
 
 pub shape_of-out : goal.shape_of-out
 shape_of-out c =
     let a = c.args in
     let l = c.loop-k in
     let n = c.requires.1 in
-    let i = l.invariant.0 in
     let r = as_columns a.ids.now a.shared.now a.sizes.now a.least.now in
-    ap length l.invariant.1 ∙ length_kept (row_text r) row_line_length (row_even r) a.out.now l.k (omega arith)
+    ap length l.invariant ∙ length_kept (row_text r) row_line_length (row_even r) a.out.now l.k (omega arith)
 
 pub returns : goal.returns
 returns c =
     let a = c.args in
-    let l = c.loop-k in
-    let left = c.loop-k-test.false in
-    let i = l.invariant.0 in
-    let k : l.k ≡ a.n = omega arith in
     let r = as_columns a.ids.now a.shared.now a.sizes.now a.least.now in
-    l.invariant.1
+    let k : c.loop-k.k ≡ length a.ids.now = omega arith in
+    c.loop-k.invariant
     ∙ ap (λ (m : ℕ). rows_text r m ++ drop (row_line_length * m) a.out.now) k
-    ∙ texts_all (row_text r) row_line_length (row_even r) a.out.now a.n c.requires.1
+    ∙ texts_all (row_text r) row_line_length (row_even r) a.out.now (length a.ids.now) c.requires.1

@@ -1,7 +1,7 @@
 -- `put_rows` meets its contract: in front stand the lines of the rows so far.
 use mathlib.Core.Path.{◌≡◌}
 use mathlib.Core.List.{◌++◌}
-use Prim.Native.Nat.{◌-◌, ◌*◌, ◌≤◌}
+use Prim.Native.Nat.{◌*◌}
 use lib.ListN.{drop}
 use Rattle.search.specs.Answers.{as_columns}
 use Rattle.frames.specs.Frames.{row_line_length}
@@ -9,7 +9,4 @@ use Rattle.answers.specs.Output.{rows_text}
 use Rattle.answers.proofs.put_rows.Given as goal
 
 abbrev pub invariant-loop-k : goal.invariant-loop-k
-invariant-loop-k l = (l.k ≤ l.n) × (l.out ≡ rows_text (as_columns l.ids l.shared l.sizes l.least) l.k ++ drop (row_line_length * l.k) l.initial.out)
-
-abbrev pub decreases-loop-k : goal.decreases-loop-k
-decreases-loop-k l = l.n - l.k
+invariant-loop-k l = l.out ≡ rows_text (as_columns l.ids l.shared l.sizes l.least) l.k ++ drop (row_line_length * l.k) l.initial.out

@@ -1,56 +1,41 @@
 -- `register_end` meets its contract: from each line on, the bytes before the first query are what is left of those of the whole.
-use mathlib.Core.Path.{sym, ap, ◌∙◌}
-use Prim.Native.Nat.{ℕ, ◌+◌}
+use mathlib.Core.Path.{ap, sym, ◌∙◌}
 use native.Mathlib.Omega.{arith}
-use lib.ListN.{drop, length-drop}
-use Rattle.lines.specs.Lines.{lines_of}
-use Rattle.lines.proofs.Lines.{line_some, line_within}
-use Rattle.answers.specs.Output.{bytes_before}
+use borrow.Author.Rules.{rules}
+use lib.ListN.{length, length-append}
+use Rattle.std.proofs.lemmas.List.Sorted.{answers_always}
+use Rattle.lines.proofs.Lines.{is_feed}
 use Rattle.answers.proofs.Input.{end_first, end_nil, end_met, end_passed}
 use Rattle.answers.proofs.register_end.Goals as goal
 
-pub loop-at-init : goal.loop-at-init
-loop-at-init c = (omega arith, end_first c.args.input.now)
-
-pub begins_query-requires : goal.begins_query-requires
-begins_query-requires c = c.loop-at-test.true
+pub loop-line-init : goal.loop-line-init
+loop-line-init c =
+    rw (c.into_iter-line-iterator.ensures.into_iter_gives, c.split_inclusive-line-items.ensures.rest)
+    (omega arith, end_first c.args.input.now)
 
 pub returns-then-begins_query : goal.returns-then-begins_query
 returns-then-begins_query c =
-    let l = c.loop-at in
-    let s = c.args.input.now in
-    let t = c.loop-at-test.true in
-    let i = l.invariant.1 in
-    let e = end_met s l.at t (sym c.begins_query.ensures ∙ c.if-begins_query.true) in
-    (omega arith, l.invariant.0)
+    let i = c.loop-line.invariant in
+    let i0 = i.0 in
+    let i1 = i.1 in
+    let s = c.in-Some.ensures.steps in
+    let e = end_met _ _ _ _ s.0 s.1.1 (s.1.2 is_feed (answers_always _ _ _ (λ f a r g h. search rules))).1 s.2 (sym c.begins_query.ensures ∙ c.if-begins_query.true) in
+    (omega arith, omega arith)
 
-pub loop-at-smaller : goal.loop-at-smaller
-loop-at-smaller c =
-    let l = c.loop-at in
-    let s = c.args.input.now in
-    let t = c.loop-at-test.true in
-    let n = length-drop l.at s in
-    let o = line_some (drop l.at s) (omega arith) in
-    let e = c.line_end-at.ensures in
-    let w = line_within s l.at l.invariant.0 in
-    omega arith
-
-pub loop-at-preserved : goal.loop-at-preserved
-loop-at-preserved c =
-    let l = c.loop-at in
-    let s = c.args.input.now in
-    let t = c.loop-at-test.true in
-    let i = l.invariant.1 in
-    let v = c.line_end-at.ensures in
-    let w = line_within s l.at l.invariant.0 in
-    let e = end_passed s l.at t (sym c.begins_query.ensures ∙ c.if-begins_query.false) in
-    let g = ap (λ (k : ℕ). k + bytes_before (lines_of (drop k s))) v in
+pub loop-line-preserved : goal.loop-line-preserved
+loop-line-preserved c =
+    let i = c.loop-line.invariant in
+    let i0 = i.0 in
+    let i1 = i.1 in
+    let s = c.in-Some.ensures.steps in
+    let n = ap length s.0 ∙ length-append c.in-Some.line.now c.next.new.self.rest.now in
+    let e = end_passed _ _ _ _ s.0 s.1.1 (s.1.2 is_feed (answers_always _ _ _ (λ f a r g h. search rules))).1 s.2 (sym c.begins_query.ensures ∙ c.if-begins_query.false) in
     (omega arith, omega arith)
 
 pub returns : goal.returns
 returns c =
-    let l = c.loop-at in
-    let s = c.args.input.now in
-    let i = l.invariant.1 in
-    let e = end_nil s l.at c.loop-at-test.false in
-    (omega arith, l.invariant.0)
+    let i = c.loop-line.invariant in
+    let i0 = i.0 in
+    let i1 = i.1 in
+    let e = end_nil _ c.in-None.ensures.steps.0 in
+    (omega arith, omega arith)

@@ -2,6 +2,7 @@
 use native.Mathlib.Omega.{arith}
 use lib.ListN.{length}
 use Rattle.lines.proofs.Lines.{line_within}
+use Rattle.fields.specs.Layouts.{written_in}
 use Rattle.answers.proofs.Responding.{responded_none, fitted_past, responded_line, fitted_line}
 use Rattle.answers.proofs.respond_good.Goals as goal
 
@@ -13,8 +14,8 @@ returns-then-input-at c =
       out_after = fitted_past a.words.now a.input.now a.at a.out.now c.if-input-at.true;
     }
 
-pub slice_bounds-answer_good-end : goal.slice_bounds-answer_good-end
-slice_bounds-answer_good-end c =
+pub slice_bounds-answer_with-end : goal.slice_bounds-answer_with-end
+slice_bounds-answer_with-end c =
     let a = c.args in
     let h = c.if-input-at.false in
     let w = line_within a.input.now a.at (omega arith) in
@@ -26,10 +27,10 @@ returns c =
     let a = c.args in
     let h = c.if-input-at.false in
     let e = c.line_end-end.ensures in
-    let w = c.answer_good-written in
+    let w = c.answer_with-written in
     record {
       value =
-          responded_line a.words.now a.input.now a.at (length a.out.now) c.line_end-end.result w.result h e w.ensures.0;
+          responded_line a.words.now a.input.now a.at (length a.out.now) c.line_end-end.result (written_in w.result) h e w.ensures.0;
       out_after =
           fitted_line a.words.now a.input.now a.at a.out.now w.new.out c.line_end-end.result h e w.ensures.1;
     }

@@ -1,17 +1,17 @@
 -- `place_in_column` meets its contract: the place lies in a stretch of 2 to the power of k, less one; each turn asks for one digit of it.
 use mathlib.Core.Path.{◌≡◌, sym}
 use mathlib.Core.Logic.{inl, inr}
-use Prim.Native.Nat.{◌+◌, ◌-◌, ◌*◌, ◌^◌, ◌<◌}
+use Prim.Native.Nat.{◌+◌, ◌-◌, ◌*◌, ◌^◌}
 use native.Mathlib.Omega.{arith}
-use lib.ListN.{length}
 use borrow.Author.Tests.{lt-ltb, le-ltb}
 use lib.Pow.{pow_pos}
-use Rattle.laws.proofs.BinarySearch.{Stretch, stretch_first, digit_within, stretch_digit, stretch_none, count_below_place}
+use Rattle.laws.proofs.BinarySearch.{Stretch, stretch_first, stretch_digit, stretch_none, count_below_place}
 use Rattle.binary_search.specs.Column.{column_at}
-use Rattle.binary_search.proofs.Search.{column_falls}
+use Rattle.binary_search.proofs.Search.{column_falls, asked_first, asked}
 use Rattle.binary_search.proofs.place_in_column.Invariants.{below}
 use Rattle.binary_search.proofs.place_in_column.Goals as goal
-use Rattle.binary_search.proofs.place_in_column.Goals.{else-rest-gt0, then-rest-gt0+else-words-first, then-rest-gt0+then-words-first}
+use Rattle.binary_search.proofs.place_in_column.Goals.{then-rest-gt0+then-words-first, else-rest-gt0}
+use Rattle.binary_search.proofs.place_in_column.Goals.{else-rest-gt0-via-then-rest-gt0+else-words-first, else-rest-gt0-via-else-rest-gt0}
 
 -- a word is below what doesn't fit a word
 pub returns-then-x-gt4294967295 : goal.returns-then-x-gt4294967295
@@ -36,84 +36,75 @@ pub overflow_add-rest : goal.overflow_add-rest
 overflow_add-rest c = let n = c.requires.0 in omega arith
 
 -- the number asked first is one of the n, and so a word
-asked-first : (c : goal.Then-rest-gt0)
-    → let a = c.args in
-    a.first + a.width * (a.n + 1 - c.power.result - 1) < length a.words.now
-asked-first c =
-    let p = pow_pos c.highest-k.result in
-    c.requires.1 (c.args.n + 1 - c.power.result - 1) (omega arith)
-
 pub overflow_mul-width : goal.overflow_mul-width
-overflow_mul-width c = let d = asked-first c in omega arith
+overflow_mul-width c =
+    let d = asked_first _ _ _ _ _ _ c.requires.1 (pow_pos c.ilog2-top.result) c.power.ensures c.if-rest-gt0.true in
+    omega arith
 
 pub overflow_add-first : goal.overflow_add-first
-overflow_add-first c = let d = asked-first c in omega arith
+overflow_add-first c =
+    let d = asked_first _ _ _ _ _ _ c.requires.1 (pow_pos c.ilog2-top.result) c.power.ensures c.if-rest-gt0.true in
+    omega arith
 
 pub offset_bounds-words-first : goal.offset_bounds-words-first
-offset_bounds-words-first c = let d = asked-first c in omega arith
-
--- `asked-first`, at another place
-asked-first-2 : (c : goal.After-shared_slice_known-then-rest-gt0-1-unread)
-    → let a = c.args in
-    a.first + a.width * (a.n + 1 - c.power.result - 1) < length a.words.now
-asked-first-2 c =
-    let p = pow_pos c.highest-k.result in
-    c.requires.1 (c.args.n + 1 - c.power.result - 1) (omega arith)
+offset_bounds-words-first c =
+    let d = asked_first _ _ _ _ _ _ c.requires.1 (pow_pos c.ilog2-top.result) c.power.ensures c.if-rest-gt0.true in
+    omega arith
 
 pub bounds-words-first : goal.bounds-words-first
-bounds-words-first c = asked-first-2 c
+bounds-words-first c =
+    let d = asked_first _ _ _ _ _ _ c.requires.1 (pow_pos c.ilog2-top.result) c.power.ensures c.if-rest-gt0.true in
+    omega arith
 
 pub loop-k-init : goal.loop-k-init
 unfolding column_at
 loop-k-init c =
-    let h = c.highest-k in
+    let h = c.ilog2-top in
     let a = c.args in
-    let first = stretch_first (below a.words.now a.first a.width a.x) a.n (column_falls (column_at a.words.now a.first a.width) a.n a.x c.requires.2) h.result c.power.result c.power.ensures h.ensures.1 h.ensures.2 c.if-rest-gt0.base in (
-      h.ensures.0,
+    let first =
+    stretch_first (below a.words.now a.first a.width a.x) a.n (column_falls (column_at a.words.now a.first a.width) a.n a.x c.requires.2)
+    h.result c.power.result c.power.ensures h.ensures.power_le h.ensures.next_power_gt c.if-rest-gt0.base in (
+      h.ensures.bound,
       elim c.if-rest-gt0.branch [
         | then-rest-gt0+then-words-first w ↦ first (inl (w.if-rest-gt0.true, lt-ltb _ a.x w.if-words-first.true, w.base-is))
-        | then-rest-gt0+else-words-first w ↦ first (inr (inl (w.if-rest-gt0.true, le-ltb _ a.x w.if-words-first.false, w.base-is)))
-        | else-rest-gt0 w ↦ first (inr (inr (w.if-rest-gt0.false, w.base-is)))
+        | else-rest-gt0 w ↦
+            elim w.else-rest-gt0.branch [
+              | else-rest-gt0-via-then-rest-gt0+else-words-first v ↦
+                  first (inr (inl (v.if-rest-gt0.true, le-ltb _ a.x v.if-words-first.false, w.base-is)))
+              | else-rest-gt0-via-else-rest-gt0 v ↦ first (inr (inr (v.if-rest-gt0.false, w.base-is)))
+            ]
       ],
     )
 
 -- the number asked is one of the n, and so a word
-asked : (c : goal.After-row_known-1)
-    → let a = c.args in
-    (c.loop-k.base + c.power-in-loop-k.result - 1 < a.n) × (a.first + a.width * (c.loop-k.base + c.power-in-loop-k.result - 1) < length a.words.now)
-asked c =
-    let a = c.args in
-    let d = digit_within (below a.words.now a.first a.width a.x) a.n c.loop-k.base c.loop-k.k c.loop-k-test.true c.loop-k.invariant.1 in
-    let i : c.loop-k.base + c.power-in-loop-k.result - 1 < a.n = omega arith in
-    (i, c.requires.1 (c.loop-k.base + c.power-in-loop-k.result - 1) i)
-
 pub overflow_add-at : goal.overflow_add-at
-overflow_add-at c = let d = (asked c).0 in let n = c.requires.0 in omega arith
+overflow_add-at c =
+    let d = asked _ _ _ _ _ _ _ _ c.loop-k-test.true c.loop-k.invariant.1 c.power-in-loop-k.ensures c.requires.1 in
+    let n = c.requires.0 in
+    omega arith
 
 pub overflow_sub-at : goal.overflow_sub-at
 overflow_sub-at c = let p = pow_pos (c.loop-k.k - 1) in omega arith
 
 pub overflow_mul-width-in-loop-k : goal.overflow_mul-width-in-loop-k
-overflow_mul-width-in-loop-k c = let d = (asked c).1 in omega arith
+overflow_mul-width-in-loop-k c =
+    let d = asked _ _ _ _ _ _ _ _ c.loop-k-test.true c.loop-k.invariant.1 c.power-in-loop-k.ensures c.requires.1 in
+    omega arith
 
 pub overflow_add-first-in-loop-k : goal.overflow_add-first-in-loop-k
-overflow_add-first-in-loop-k c = let d = (asked c).1 in omega arith
+overflow_add-first-in-loop-k c =
+    let d = asked _ _ _ _ _ _ _ _ c.loop-k-test.true c.loop-k.invariant.1 c.power-in-loop-k.ensures c.requires.1 in
+    omega arith
 
 pub offset_bounds-words-first-in-loop-k : goal.offset_bounds-words-first-in-loop-k
-offset_bounds-words-first-in-loop-k c = let d = (asked c).1 in omega arith
-
--- `asked`, at another place
-asked-2 : (c : goal.After-shared_slice_known-in-loop-k-1-unread)
-    → let a = c.args in
-    (c.loop-k.base + c.power-in-loop-k.result - 1 < a.n) × (a.first + a.width * (c.loop-k.base + c.power-in-loop-k.result - 1) < length a.words.now)
-asked-2 c =
-    let a = c.args in
-    let d = digit_within (below a.words.now a.first a.width a.x) a.n c.loop-k.base c.loop-k.k c.loop-k-test.true c.loop-k.invariant.1 in
-    let i : c.loop-k.base + c.power-in-loop-k.result - 1 < a.n = omega arith in
-    (i, c.requires.1 (c.loop-k.base + c.power-in-loop-k.result - 1) i)
+offset_bounds-words-first-in-loop-k c =
+    let d = asked _ _ _ _ _ _ _ _ c.loop-k-test.true c.loop-k.invariant.1 c.power-in-loop-k.ensures c.requires.1 in
+    omega arith
 
 pub bounds-words-first-in-loop-k : goal.bounds-words-first-in-loop-k
-bounds-words-first-in-loop-k c = (asked-2 c).1
+bounds-words-first-in-loop-k c =
+    let d = asked _ _ _ _ _ _ _ _ c.loop-k-test.true c.loop-k.invariant.1 c.power-in-loop-k.ensures c.requires.1 in
+    omega arith
 
 -- the stretch after a turn
 next : (c : goal.After-power_if-base)

@@ -13,6 +13,3 @@ below words first width x i = ltb (column_at words first width i) x
 
 abbrev pub invariant-loop-k : goal.invariant-loop-k
 invariant-loop-k l = (l.k < 64) × Stretch (below l.words l.first l.width l.x) l.n l.base (2 ^ l.k - 1)
-
-abbrev pub decreases-loop-k : goal.decreases-loop-k
-decreases-loop-k l = l.k

@@ -1,6 +1,6 @@
 -- `fields` meets its contract: after k turns the first k fields stand at the start of the array, and `at` is after their bytes.
 -- Assumes nothing.
-use mathlib.Core.Path.{◌≡◌, refl, ◌∙◌}
+use mathlib.Core.Path.{◌≡◌, refl, sym, ◌∙◌}
 use mathlib.Core.List.{List}
 use Prim.Native.Nat.{ℕ, ◌+◌, ◌*◌, ◌≤◌, ◌<◌}
 use native.Mathlib.Omega.{arith}
@@ -15,7 +15,7 @@ use Rattle.fields.proofs.fields.Goals as goal
 
 pub loop-k-init : goal.loop-k-init
 unfolding fields_of sum_of
-loop-k-init c = (omega arith, refl, refl)
+loop-k-init c = (refl, refl)
 
 -- how many widths there are
 counted : (c : goal.After-width-1) → length c.args.layout.widths ≡ most
@@ -50,10 +50,9 @@ loop-k-preserved c =
     let f = counted-2 c in
     let h : k < length ws = omega arith in
     let m = sum_more ws k h in (
-      omega arith,
       fields_turn (replicate most 0) ws (bytes_of c.args.line.now) c.loop-k.read k c.loop-k.at c.number_at.result h
+          c.loop-k.invariant.0
           c.loop-k.invariant.1
-          c.loop-k.invariant.2
           c.number_at.ensures,
       omega arith,
     )
@@ -65,5 +64,5 @@ returns c =
     let t : List ℕ = drop 1 (bytes_of c.args.line.now) in
     let f : length ws ≡ most = search rules in
     let e : c.loop-k.k ≡ length ws = omega arith in
-    let r : c.loop-k.read ≡ sets (replicate most 0) 0 (fields_of ws t) = rw (e, take-length ws) at c.loop-k.invariant.1 in
+    let r : c.loop-k.read ≡ sets (replicate most 0) 0 (fields_of ws t) = rw (e, take-length ws) at c.loop-k.invariant.0 in
     r ∙ sets_all (replicate most 0) (fields_of ws t) (length_fields ws t ∙ f)

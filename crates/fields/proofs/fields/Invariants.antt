@@ -12,7 +12,4 @@ use Rattle.fields.proofs.fields.Given as goal
 
 abbrev pub invariant-loop-k : goal.invariant-loop-k
 invariant-loop-k l =
-    (l.k ≤ most) × (l.read ≡ sets (replicate most 0) 0 (fields_of (take l.k l.layout.widths) (drop 1 (bytes_of l.line)))) × (l.at ≡ 1 + sum_of (take l.k l.layout.widths))
-
-abbrev pub decreases-loop-k : goal.decreases-loop-k
-decreases-loop-k l = most - l.k
+    (l.read ≡ sets (replicate most 0) 0 (fields_of (take l.k l.layout.widths) (drop 1 (bytes_of l.line)))) × (l.at ≡ 1 + sum_of (take l.k l.layout.widths))

@@ -1,43 +1,36 @@
--- `head_size` meets its contract: after k turns n is 1 and the first k widths.
+-- `head_size` meets its contract: after so many turns n is 1 and as many widths.
 -- Assumes nothing.
-use mathlib.Core.Path.{◌≡◌, refl}
-use Prim.Native.Nat.{◌<◌}
-use native.Mathlib.Omega.{arith}
-use lib.ListN.{length, get_or}
+use Rattle.std.proofs.Common.{◌≡◌, ◌<◌, length, get_or, refl, arith, rules}
 use lib.Seq.{take-length}
 use mir.Syntax.{w8}
 use mir.Val.{Fits}
-use borrow.Author.Rules.{rules}
 use Rattle.laws.specs.Lists.{sum_of}
 use Rattle.fields.specs.Layouts.{head_size}
 use Rattle.fields.proofs.Layouts.{most, sum_more}
 use Rattle.fields.proofs.head_size.Goals as goal
 
-pub loop-k-init : goal.loop-k-init
+pub loop-width-init : goal.loop-width-init
 unfolding sum_of
-loop-k-init c = (omega arith, refl, omega arith)
-
--- a width is a byte
-below : (c : goal.After-n-1) → get_or c.args.layout.widths c.loop-k.k 0 < 256
-below c =
-    let h : Fits w8 (get_or c.args.layout.widths c.loop-k.k 0) = search rules in
-    h.fits
+loop-width-init c = (refl, omega arith)
 
 pub overflow_add-n : goal.overflow_add-n
-overflow_add-n c = let h = below c in omega arith
+overflow_add-n c =
+    let h : Fits w8 (get_or c.args.layout.widths c.loop-width.width-index 0) = search rules in
+    let b = h.fits in omega arith
 
-pub loop-k-preserved : goal.loop-k-preserved
-loop-k-preserved c =
+pub loop-width-preserved : goal.loop-width-preserved
+loop-width-preserved c =
     let w = c.args.layout.widths in
     let n : length w ≡ most = search rules in
-    let m = sum_more w c.loop-k.k (omega arith) in
-    let h = below c in
-    (omega arith, omega arith, omega arith)
+    let m = sum_more w c.loop-width.width-index (omega arith) in
+    let h : Fits w8 (get_or w c.loop-width.width-index 0) = search rules in
+    let b = h.fits in
+    (omega arith, omega arith)
 
 pub returns : goal.returns
 unfolding head_size
 returns c =
     let w = c.args.layout.widths in
     let n : length w ≡ most = search rules in
-    let e : c.loop-k.k ≡ length w = omega arith in
-    (rw (e, take-length w) at c.loop-k.invariant.1, omega arith)
+    let e : c.loop-width.width-index ≡ length w = omega arith in
+    (rw (e, take-length w) at c.loop-width.invariant.0, omega arith)

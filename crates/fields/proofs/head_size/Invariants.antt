@@ -1,4 +1,4 @@
--- `head_size` meets its contract: after k turns n is 1 and the first k widths.
+-- `head_size` meets its contract: after so many turns n is 1 and as many widths.
 -- Assumes nothing.
 use mathlib.Core.Path.{◌≡◌}
 use Prim.Native.Nat.{◌+◌, ◌*◌, ◌-◌, ◌≤◌}
@@ -7,8 +7,5 @@ use Rattle.laws.specs.Lists.{sum_of}
 use Rattle.fields.proofs.Layouts.{most}
 use Rattle.fields.proofs.head_size.Given as goal
 
-abbrev pub invariant-loop-k : goal.invariant-loop-k
-invariant-loop-k l = (l.k ≤ most) × (l.n ≡ 1 + sum_of (take l.k l.layout.widths)) × (l.n ≤ 1 + 255 * l.k)
-
-abbrev pub decreases-loop-k : goal.decreases-loop-k
-decreases-loop-k l = most - l.k
+abbrev pub invariant-loop-width : goal.invariant-loop-width
+invariant-loop-width l = (l.n ≡ 1 + sum_of (take l.width-index l.width-items)) × (l.n ≤ 1 + 255 * l.width-index)

@@ -1,6 +1,6 @@
 -- `put_fields` meets its contract: after k turns the digits of the first k fields stand from index 2 on, and `at` is after them.
 -- Assumes nothing.
-use mathlib.Core.Path.{◌≡◌, refl, ◌∙◌}
+use mathlib.Core.Path.{◌≡◌, refl, sym, ◌∙◌}
 use Prim.Native.Nat.{◌+◌, ◌*◌, ◌≤◌, ◌<◌}
 use native.Mathlib.Omega.{arith}
 use lib.ListN.{length, get_or}
@@ -14,7 +14,7 @@ use Rattle.fields.proofs.put_fields.Goals as goal
 
 pub loop-k-init : goal.loop-k-init
 unfolding field_bytes hex_of sum_of
-loop-k-init c = (omega arith, refl, refl, refl)
+loop-k-init c = (refl, refl, refl)
 
 -- how many widths there are
 counted : (c : goal.After-put_number-arg-1) → length c.args.layout.widths ≡ most
@@ -58,18 +58,17 @@ loop-k-preserved c =
     let f = counted-2 c in
     let h : k < length c.args.layout.widths = omega arith in
     let m = sum_more c.args.layout.widths k h in (
+      p.ensures ∙ field_bytes_turn a.out.now c.args.layout.widths a.fields c.loop-k.out k c.loop-k.at h c.loop-k.invariant.0 c.loop-k.invariant.1,
       omega arith,
-      p.ensures ∙ field_bytes_turn a.out.now c.args.layout.widths a.fields c.loop-k.out k c.loop-k.at h c.loop-k.invariant.1 c.loop-k.invariant.2,
-      omega arith,
-      p.auto.out ∙ c.loop-k.invariant.3,
+      p.auto.out ∙ c.loop-k.invariant.2,
     )
 
 pub shape_of-out : goal.shape_of-out
-shape_of-out c = c.loop-k.invariant.3
+shape_of-out c = c.loop-k.invariant.2
 
 pub returns : goal.returns
 returns c =
     let ws = c.args.layout.widths in
     let f : length ws ≡ most = search rules in
     let e : c.loop-k.k ≡ length ws = omega arith in
-    rw (e, take-length ws) at c.loop-k.invariant.1
+    rw (e, take-length ws) at c.loop-k.invariant.0

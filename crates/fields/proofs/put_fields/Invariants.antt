@@ -12,10 +12,6 @@ use Rattle.fields.proofs.put_fields.Given as goal
 
 abbrev pub invariant-loop-k : goal.invariant-loop-k
 invariant-loop-k l =
-    (l.k ≤ most)
-    × (l.out ≡ sets l.initial.out 2 (hex_of (field_bytes (take l.k l.layout.widths) l.fields)))
+    (l.out ≡ sets l.initial.out 2 (hex_of (field_bytes (take l.k l.layout.widths) l.fields)))
     × (l.at ≡ 2 + 2 * sum_of (take l.k l.layout.widths))
     × (length l.out ≡ length l.initial.out)
-
-abbrev pub decreases-loop-k : goal.decreases-loop-k
-decreases-loop-k l = most - l.k

@@ -4,8 +4,7 @@ use mathlib.Core.Path.{◌≡◌, sym, ap, ◌∙◌}
 use Prim.Native.Nat.{ℕ, suc, ◌≤◌}
 use native.Mathlib.Omega.{arith}
 use lib.ListN.{length}
-use Rattle.fields.specs.declared.Written.{Written}
-use Rattle.fields.specs.Layouts.{line_of}
+use Rattle.fields.specs.Layouts.{Written, line_of}
 use Rattle.fields.proofs.Layouts.{length_line, written_long, written_full, written_good, out_kept, out_good}
 use Rattle.fields.proofs.write.Goals as goal
 

@@ -1,17 +1,25 @@
 -- `read_name` meets its contract: the reading by its layout in the code is that of a 4E frame, and each field fits its type.
 -- Assumes nothing.
-use mathlib.Core.Path.{◌∙◌}
+use Rattle.std.proofs.Common.{◌∙◌}
+use Rattle.std.proofs.lemmas.Result.{err_from_is_err_and}
 use Rattle.fields.proofs.Layouts.{field_below}
 use Rattle.fields.proofs.Coded.{read_as, buffer_as}
 use Rattle.frames.specs.Frames.{name_frame}
 use Rattle.frames.proofs.read_name.Goals as goal
 
+pub returns-in_err-parts : goal.returns-in_err-parts
+returns-in_err-parts c =
+    let p = err_from_is_err_and c.from_residual.result c.from_residual.ensures.1 in
+    record {
+      result_value = rw (p.1, p.2) (read_as name_frame _ _ _ c.in_err-parts.ensures.value);
+      name_after = c.read_named.ensures.name_after ∙ buffer_as name_frame _ _;
+    }
+
 pub overflow_cast-id : goal.overflow_cast-id
-overflow_cast-id c = record { fits = field_below _ _ _ _ c.read_named-r.ensures.value 0 }
+overflow_cast-id c = record { fits = field_below _ _ _ _ c.in_ok-parts.ensures.value 0 }
 
 pub returns : goal.returns
-returns c = let r = c.read_named-r in
-    record {
-      result_value = read_as name_frame _ _ _ r.ensures.value;
-      name_after = r.ensures.name_after ∙ buffer_as name_frame _ _;
-    }
+returns c = record {
+  result_value = read_as name_frame _ _ _ c.in_ok-parts.ensures.value;
+  name_after = c.read_named.ensures.name_after ∙ buffer_as name_frame _ _;
+}

@@ -1,4 +1,4 @@
--- `write_name` meets its contract: a width of 0 adds nothing to the line.
+-- `write_name` meets its contract.
 -- Assumes nothing.
 use Rattle.hex_digits.specs.Numbers.{bytes_for}
 use Rattle.fields.specs.Layouts.{field_bytes, line_of, written_of, out_of}
@@ -6,4 +6,7 @@ use Rattle.frames.proofs.write_name.Goals as goal
 
 pub returns : goal.returns
 unfolding written_of out_of line_of field_bytes bytes_for
-returns c = let both = c.write.ensures in record { value = both.value; out_after = both.out_after }
+returns c = record {
+  value = rw c.from.ensures at c.write.ensures.value;
+  out_after = rw c.from.ensures at c.write.ensures.out_after;
+}

@@ -7,5 +7,5 @@ use Rattle.hex_digits.proofs.digit.Goals as goal
 pub returns-then-n-lt10 : goal.returns-then-n-lt10
 returns-then-n-lt10 c = simp (lt-ltb _ _ c.if-n-lt10.true) at (digit_worked_lem c.args.n c.requires)
 
-pub returns : goal.returns
-returns c = simp (le-ltb _ _ c.if-n-lt10.false) at (digit_worked_lem c.args.n c.requires)
+pub returns-else-n-lt10 : goal.returns-else-n-lt10
+returns-else-n-lt10 c = simp (le-ltb _ _ c.if-n-lt10.false) at (digit_worked_lem c.args.n c.requires)

@@ -1,36 +1,20 @@
--- `value` meets its contract: its comparisons give a byte's place among the digits, which one test shows at every byte.
+-- `value` meets its contract: its two ranges are those of the digits.
 -- Assumes nothing.
-use borrow.Author.Tests.{lt-ltb, le-ltb, le-leb, lt-leb}
 use native.Mathlib.Omega.{arith}
-use Rattle.hex_digits.proofs.Digits.{value_worked_lem}
+use Rattle.hex_digits.proofs.Digits.{value_low, value_high, value_none}
 use Rattle.hex_digits.proofs.value.Goals as goal
 
-pub returns-then-b-lt48 : goal.returns-then-b-lt48
-returns-then-b-lt48 c = (simp (lt-ltb _ _ c.if-b-lt48.true) at (value_worked_lem c.args.b (omega arith)), omega arith)
+pub returns-in-48-to-57 : goal.returns-in-48-to-57
+returns-in-48-to-57 c = value_low _ (omega arith) (omega arith)
 
-pub returns-then-b-le57 : goal.returns-then-b-le57
-returns-then-b-le57 c = (
-  simp (le-ltb _ _ c.if-b-lt48.false, le-leb _ _ c.if-b-le57.true) at (value_worked_lem c.args.b (omega arith)),
-  omega arith,
-)
+pub returns-in-65-to-70 : goal.returns-in-65-to-70
+returns-in-65-to-70 c = value_high _ (omega arith) (omega arith)
 
-pub returns-then-b-lt65 : goal.returns-then-b-lt65
-returns-then-b-lt65 c = (
-  simp (le-ltb _ _ c.if-b-lt48.false, lt-leb _ _ c.if-b-le57.false, lt-ltb _ _ c.if-b-lt65.true) at
-      (value_worked_lem c.args.b (omega arith)),
-  omega arith,
-)
+pub returns-in_default : goal.returns-in_default
+returns-in_default c = value_none _ (omega arith) (λ h k. omega arith) (λ h k. omega arith)
 
-pub returns-then-b-le70 : goal.returns-then-b-le70
-returns-then-b-le70 c = (
-  simp (le-ltb _ _ c.if-b-lt48.false, lt-leb _ _ c.if-b-le57.false, le-ltb _ _ c.if-b-lt65.false, le-leb _ _ c.if-b-le70.true) at
-      (value_worked_lem c.args.b (omega arith)),
-  omega arith,
-)
+pub returns-in_default-2 : goal.returns-in_default-2
+returns-in_default-2 c = value_none _ (omega arith) (λ h k. omega arith) (λ h k. omega arith)
 
-pub returns : goal.returns
-returns c = (
-  simp (le-ltb _ _ c.if-b-lt48.false, lt-leb _ _ c.if-b-le57.false, le-ltb _ _ c.if-b-lt65.false, lt-leb _ _ c.if-b-le70.false) at
-      (value_worked_lem c.args.b (omega arith)),
-  omega arith,
-)
+pub returns-in_default-3 : goal.returns-in_default-3
+returns-in_default-3 c = value_none _ (omega arith) (λ h k. omega arith) (λ h k. omega arith)

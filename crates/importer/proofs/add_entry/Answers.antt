@@ -1,21 +1,14 @@
--- `add_entry` meets its contract: what is put is counted where the line belongs.
+-- `add_entry` meets its contract: what belongs to an id is put and counted.
 -- Assumes nothing.
-use mathlib.Core.Path.{ap, ◌∙◌}
-use Prim.Native.Nat.{ℕ}
-use native.Mathlib.Omega.{arith}
-use Rattle.weeks.specs.Pairs.{week_of, pair_of, entry_of}
-use Rattle.importer.proofs.Tables.{count_few, entered}
+use Rattle.importer.proofs.Tables.{entered, not_entered}
 use Rattle.importer.proofs.add_entry.Goals as goal
 
-pub overflow_add-result : goal.overflow_add-result
-overflow_add-result c =
-    let f = count_few c.args.outcome in
-    let e = c.entries_of.ensures in
-    omega arith
-
-pub returns : goal.returns
-returns c =
+pub returns-in-Belongs : goal.returns-in-Belongs
+returns-in-Belongs c =
     let a = c.args in
-    entered a.outcome a.day a.reading a.k a.entries.now _ _ c.requires
-    (c.entry.ensures ∙ ap (λ (v : ℕ). entry_of (pair_of v (week_of a.day)) a.reading) c.value_of.ensures)
-    c.entries_of.ensures
+    entered a.outcome c.in-Belongs.id a.day a.reading a.k a.entries.now c.entry.result c.requires c.in-Belongs.is c.entry.ensures
+
+pub returns-in_default : goal.returns-in_default
+returns-in_default c =
+    let a = c.args in
+    not_entered a.outcome a.day a.reading a.k a.entries.now c.in_default.not-Belongs

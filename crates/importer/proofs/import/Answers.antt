@@ -1,31 +1,18 @@
 -- `import` meets its contract: the lines are judged before the room, and the room for them before anything is searched.
 -- Assumes nothing.
-use mathlib.Core.Path.{sym, ◌∙◌}
-use Prim.Native.Nat.{◌<◌}
-use native.Mathlib.Omega.{arith}
+use Rattle.std.proofs.Common.{◌<◌, arith}
+use Rattle.std.proofs.lemmas.Result.{err_from_is_err_and}
 use Rattle.importer.specs.Import.{as_outcomes, outcome_room}
 use Rattle.importer.proofs.Whole.{import_refused, lines_full}
 use Rattle.importer.proofs.import.Goals as goal
 
-pub returns-then-number-ne0 : goal.returns-then-number-ne0
-returns-then-number-ne0 c = rw c.refused.ensures (import_refused _ _ _ _ _ _ _ _ c.judge_lines-judged.ensures c.if-number-ne0.true)
+pub returns-in_err-n : goal.returns-in_err-n
+returns-in_err-n c =
+    let p = err_from_is_err_and c.from_residual.result c.from_residual.ensures.1 in
+    rw (p.1, p.2) (import_refused _ _ _ _ _ _ _ c.in_err-n.ensures)
 
-pub returns-then-cases-n : goal.returns-then-cases-n
-returns-then-cases-n c =
+pub returns-then-min-n : goal.returns-then-min-n
+returns-then-min-n c =
     let a = c.args in
-    let j = c.judge_lines-judged in
-    let h : outcome_room (as_outcomes a.cases.now a.values.now) < j.result.lines = omega arith in
-    rw c.refused-then-cases-n.ensures (lines_full _ _ _ _ _ _ _ _ j.ensures c.if-number-ne0.false h)
-
-pub returns-then-values-n : goal.returns-then-values-n
-returns-then-values-n c =
-    let a = c.args in
-    let j = c.judge_lines-judged in
-    let h : outcome_room (as_outcomes a.cases.now a.values.now) < j.result.lines = omega arith in
-    rw c.refused-then-values-n.ensures (lines_full _ _ _ _ _ _ _ _ j.ensures c.if-number-ne0.false h)
-
-pub import_lines-requires : goal.import_lines-requires
-import_lines-requires c =
-    let j = c.judge_lines-judged.ensures in
-    let z = c.if-number-ne0.false in
-    (sym j.number ∙ z, j.lines z, omega arith)
+    let h : outcome_room (as_outcomes a.cases.now a.values.now) < c.in_ok-n.n = omega (arith, c.min.ensures) in
+    lines_full _ _ _ _ _ _ c.in_ok-n.ensures h

@@ -3,10 +3,12 @@
 use mathlib.Core.Path.{refl, sym, ◌∙◌}
 use Prim.Native.Nat.{ℕ, ◌≤◌}
 use native.Mathlib.Omega.{arith}
+use Rattle.std.proofs.Common.{rules}
 use lib.ListN.{length, replicate}
 use lib.Seq.{length-take-le}
+use Rattle.std.proofs.lemmas.Result.{err_from_is_err_and}
 use Rattle.importer.proofs.Judging.{lines_few}
-use Rattle.importer.proofs.Tables.{taken_few}
+use Rattle.importer.proofs.Tables.{taken_few, put_over}
 use Rattle.importer.proofs.Whole.{pairs_full, import_all}
 use Rattle.importer.proofs.import_lines.Goals as goal
 
@@ -54,75 +56,28 @@ pairs-paired-requires c =
     let l = length-take-le t.result t.new.entries h in
     (length-take-le {A = ℕ} t.result (replicate 1024 0) w ∙ sym l, omega arith)
 
-pub returns-then-paired-ne0 : goal.returns-then-paired-ne0
-returns-then-paired-ne0 c =
-    let p = c.pairs-paired.ensures in
-    rw c.refused.ensures (pairs_full _ _ _ _ _ c.requires.0 _ _ _ _ c.take_lines-k.ensures _ _ p.value p.counts_after c.if-paired-ne0.true)
+pub returns-in_err-pairs : goal.returns-in_err-pairs
+returns-in_err-pairs c =
+    let p = err_from_is_err_and c.from_residual.result c.from_residual.ensures.1 in
+    let q = c.pairs-paired.ensures in
+    rw (p.1, p.2) (pairs_full _ _ _ _ _ c.requires.0 _ _ _ _ c.take_lines-k.ensures _ _ _ (search (rules, c.in_err-pairs.ensures.cases)) q.value q.counts_after)
 
-pub slice_bounds-case_table-end : goal.slice_bounds-case_table-end
-slice_bounds-case_table-end c =
-    let t = c.take_lines-k in
-    let f = lines_few _ c.requires.0 in
-    let e = c.requires.1 in
-    let k = t.auto.cases in
-    omega arith
-
-pub slice_bounds-copy-end : goal.slice_bounds-copy-end
-slice_bounds-copy-end c =
-    let t = c.take_lines-k in
-    let f = lines_few _ c.requires.0 in
-    let e = c.requires.1 in
-    let k = t.auto.cases in
-    let h : c.args.n ≤ length t.new.cases = omega arith in
-    sym (length-take-le c.args.n t.new.cases h)
-
-pub copy-requires : goal.copy-requires
-copy-requires c =
-    let t = c.take_lines-k in
-    let f = lines_few _ c.requires.0 in
-    let e = c.requires.1 in
-    let k = t.auto.cases in
-    let h : c.args.n ≤ length t.new.cases = omega arith in
-    let l = length-take-le c.args.n t.new.cases h in
-    let m = c.requires.2 in
-    omega arith
-
-pub slice_bounds-value_table-end : goal.slice_bounds-value_table-end
-slice_bounds-value_table-end c =
-    let t = c.take_lines-k in
-    let f = lines_few _ c.requires.0 in
-    let e = c.requires.1 in
-    let k = t.auto.values in
-    omega arith
-
-pub slice_bounds-copy-end-2 : goal.slice_bounds-copy-end-2
-slice_bounds-copy-end-2 c =
-    let t = c.take_lines-k in
-    let f = lines_few _ c.requires.0 in
-    let e = c.requires.1 in
-    let k = t.auto.values in
-    let h : c.args.n ≤ length t.new.values = omega arith in
-    sym (length-take-le c.args.n t.new.values h)
-
-pub copy-requires-2 : goal.copy-requires-2
-copy-requires-2 c =
-    let t = c.take_lines-k in
-    let f = lines_few _ c.requires.0 in
-    let e = c.requires.1 in
-    let k = t.auto.values in
-    let h : c.args.n ≤ length t.new.values = omega arith in
-    let l = length-take-le c.args.n t.new.values h in
-    let m = c.requires.2 in
-    omega arith
-
-pub overflow_cast-result : goal.overflow_cast-result
-overflow_cast-result c =
+pub overflow_cast-lines : goal.overflow_cast-lines
+overflow_cast-lines c =
     let f = lines_few _ c.requires.0 in
     let e = c.requires.1 in
     record { fits = omega arith }
 
 pub returns : goal.returns
 returns c =
+    let t = c.take_lines-k in
+    let f = lines_few _ c.requires.0 in
+    let e = c.requires.1 in
+    let k = t.auto.cases in
+    let m = t.auto.values in
+    let h : c.args.n ≤ length t.new.cases = omega arith in
+    let l : c.args.n ≤ length t.new.values = omega arith in
     let p = c.pairs-paired.ensures in
-    import_all _ _ _ _ _ c.requires.0 _ c.requires.1 c.requires.2 _ _ _ _ c.take_lines-k.ensures _ _ p.value p.counts_after c.if-paired-ne0.false _ _
-    c.copy.ensures c.copy-2.ensures
+    import_all _ _ _ _ _ c.requires.0 _ c.requires.1 c.requires.2 _ _ _ _ t.ensures _ _ _ (search (rules, c.in_ok-pairs.ensures.cases)) p.value p.counts_after _ _
+    (put_over c.args.n t.new.cases c.args.cases.now _ c.copy_from_slice.ensures.after h)
+    (put_over c.args.n t.new.values c.args.values.now _ c.copy_from_slice-2.ensures.after l)

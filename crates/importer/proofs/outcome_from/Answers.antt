@@ -1,28 +1,21 @@
 -- `outcome_from` meets its contract, by the answer's case and the count of its rows.
--- Assumes nothing.
-use native.Mathlib.Omega.{arith}
-use Rattle.importer.proofs.Searching.{from_refused, from_none, from_some, from_one, from_many}
+use Rattle.std.proofs.Common.{arith, rules}
+use Rattle.importer.specs.Import.{outcome_from}
+use Rattle.importer.proofs.Searching.{from_none, from_one, from_many}
 use Rattle.importer.proofs.outcome_from.Goals as goal
 
-pub returns-then-rows-eq0 : goal.returns-then-rows-eq0
-returns-then-rows-eq0 c =
-    let a = c.args in
-    from_none a.answer a.ids.now _ _ _ _ c.in-Found.is c.if-rows-eq0.true
+pub returns-in-empty : goal.returns-in-empty
+returns-in-empty c = let h = c.in-empty.len_below in rw c.in-Ok.is (from_none _ _ _ _ _ (omega arith))
 
-pub bounds-ids-0 : goal.bounds-ids-0
-bounds-ids-0 c =
-    let e = from_some c.args.answer c.args.ids.now _ _ _ _ c.in-Found.is in
-    omega (arith, e, c.requires, c.if-rows-eq1.true)
+pub returns-in-len1 : goal.returns-in-len1
+returns-in-len1 c =
+    let h = c.in-len1.len_below in
+    let l = c.in-len1.len_at_least in
+    rw c.in-Ok.is (from_one _ _ _ _ _ (omega arith))
 
-pub returns-then-rows-eq1 : goal.returns-then-rows-eq1
-returns-then-rows-eq1 c =
-    from_one c.args.answer c.args.ids.now _ _ _ _ c.in-Found.is c.if-rows-eq1.true c.requires
+pub returns-in_default : goal.returns-in_default
+returns-in_default c = rw c.in-Ok.is (from_many _ _ _ _ _ c.in_default.len_at_least)
 
-pub returns-else-rows-eq1 : goal.returns-else-rows-eq1
-returns-else-rows-eq1 c =
-    from_many c.args.answer c.args.ids.now _ _ _ _ c.in-Found.is c.if-rows-eq0.false c.if-rows-eq1.false c.requires
-
-pub returns-in-Refused : goal.returns-in-Refused
-returns-in-Refused c =
-    let a = c.args in
-    from_refused a.answer a.ids.now _ _ c.in-Refused.is
+pub returns-in-Err : goal.returns-in-Err
+unfolding outcome_from
+returns-in-Err c = rw c.in-Err.is (search rules)

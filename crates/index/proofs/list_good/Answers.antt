@@ -1,366 +1,115 @@
--- `list_good` meets its contract: what was looked at of the first k ids is good, and the tally has them.
-use mathlib.Core.Path.{◌≡◌, refl, sym, ap, ap₂, ◌∙◌}
+-- `list_good` meets its contract: what was looked at of the first ids is good, and the tally has them.
+use Rattle.std.proofs.Common.{◌≡◌, ℕ, List, ◌+◌, ◌-◌, ◌≤◌, ◌<◌, sym, ap, ◌∙◌, rules, arith}
 use mathlib.Core.Logic.{⊎_elim}
-use mathlib.Core.Bool.{false≢true}
-use Prim.Native.Nat.{ℕ, ◌+◌, ◌-◌, ◌≤◌, ◌<◌}
-use native.Mathlib.Nat.{eq-or-lt_of_le}
-use native.Mathlib.Omega.{arith}
-use lib.ListN.{length, get_or, set, length-set}
-use Rattle.words.specs.Words.{row_start, row_width, name_count, row_length, row_size, list_start}
+use Rattle.laws.proofs.Order.{le_or_lt}
 use Rattle.words.proofs.Laws.{row_in_lem}
-use Rattle.index.specs.Check.{name_for}
+use Rattle.index.specs.Check.{NameAt}
 use Rattle.index.proofs.Facts.{head_facts}
-use Rattle.index.proofs.Tally.{ListTo, id_at, id_read, id_in_lem, list_start_lem, list_out, list_unnamed, list_more, tally_most, list_whole}
+use Rattle.index.proofs.Tally.{id_at, part_within, part_long, part_id, list_start_lem, list_out, list_unnamed, list_more, tally_most, list_whole}
+use Rattle.index.proofs.list_good.Invariants.{Follows}
 use Rattle.index.proofs.list_good.Goals as goal
-
-pub name_count-names-requires : goal.name_count-names-requires
-name_count-names-requires c = (head_facts _ c.requires.0.named.head).three
 
 pub postings_start-requires : goal.postings_start-requires
 postings_start-requires c = (head_facts _ c.requires.0.named.head).three
 
--- the row lies within the slice
-in_row : (s : goal.After-postings_start) → let w = s.args.words.now in row_start w s.args.r + row_width ≤ length w
-in_row s = row_in_lem s.args.words.now s.args.r (head_facts _ s.requires.0.named.head).within s.requires.2
-
 pub row_place-requires : goal.row_place-requires
-row_place-requires c = in_row c
+row_place-requires c = row_in_lem c.args.words.now c.args.r (head_facts _ c.requires.0.named.head).within c.requires.2
 
-pub overflow_add-first : goal.overflow_add-first
-overflow_add-first c =
-    let s = c.postings_start.ensures.1 in
-    let p = c.row_place.ensures.1 in
-    omega arith
-
--- `in_row`, at another place
-in_row-2 : (s : goal.After-row_place) → let w = s.args.words.now in row_start w s.args.r + row_width ≤ length w
-in_row-2 s = row_in_lem s.args.words.now s.args.r (head_facts _ s.requires.0.named.head).within s.requires.2
-
-pub row_length-count-requires : goal.row_length-count-requires
-row_length-count-requires c = in_row-2 c
-
--- `in_row`, at another place
-in_row-3 : (s : goal.After-row_length-count) → let w = s.args.words.now in row_start w s.args.r + row_width ≤ length w
-in_row-3 s = row_in_lem s.args.words.now s.args.r (head_facts _ s.requires.0.named.head).within s.requires.2
+pub row_length-requires : goal.row_length-requires
+row_length-requires c = row_in_lem c.args.words.now c.args.r (head_facts _ c.requires.0.named.head).within c.requires.2
 
 pub row_size-size-requires : goal.row_size-size-requires
-row_size-size-requires c = in_row-3 c
+row_size-size-requires c = row_in_lem c.args.words.now c.args.r (head_facts _ c.requires.0.named.head).within c.requires.2
 
-pub loop-k-init : goal.loop-k-init
-loop-k-init c = (list_start_lem _ _ _ c.requires.4, refl, ((λ e. refl), (λ z. absurd (omega arith))))
+pub slice_bounds-list-end : goal.slice_bounds-list-end
+slice_bounds-list-end c =
+    let s = c.postings_start in
+    let p = c.row_place in
+    let n = c.row_length in
+    let h = part_within c.args.words.now c.requires.0 c.args.r c.requires.2 s.result p.result n.result s.ensures.0 p.ensures.0 n.ensures.0 in
+    search rules
 
-from_zero : (k : ℕ) → 0 ≤ k
-from_zero k = omega arith
+pub loop-id-init : goal.loop-id-init
+loop-id-init c = (list_start_lem _ _ _ c.requires.4, (λ e. e, λ z. absurd (omega arith)))
 
--- where the row's list starts
-abbrev first : goal.In-loop-k → ℕ
-first l = l.postings_start.result + l.row_place.result
+-- a name of an id and a size, as either is read
+named_as : {w : List ℕ} {y z i j at : ℕ} → NameAt w y i at → y ≡ z → i ≡ j → NameAt w z j at
+named_as n e f = record { within = n.within; id_is = n.id_is ∙ f; size_is = n.size_is ∙ e }
 
-first-at : (l : goal.In-loop-k) → first l ≡ list_start l.args.words.now l.args.r
-first-at l =
-    let s = l.postings_start.ensures.0 in
-    let p = l.row_place.ensures.0 in
-    omega arith
+-- an id that is below the least that it may be has one before it that it isn't above
+not_above : (w : List ℕ) (r k next id : ℕ) → Follows w r k next → id < next → id ≡ id_at w r k → (0 < k) × (id_at w r k ≤ id_at w r (k - 1))
+not_above w r k next id f l e =
+    let later : 0 < k = ⊎_elim (λ (z : k ≤ 0). let h = f.0 (omega arith) in absurd (omega arith)) (λ (z : 0 < k). z) (le_or_lt k 0) in
+    (later, omega (arith, f.1 later))
 
--- in the loop, ids up to the present one lie within the slice
-inside : (c : goal.In-loop-k) (k : ℕ) → k ≤ c.loop-k.k → first c + k < length c.args.words.now
-inside c k h =
-    let n = c.row_length-count.ensures.0 in
-    let t = c.loop-k-test.true in
-    id_in_lem c.args.words.now c.requires.0 c.args.r c.requires.2 k (first c) (first-at c) (omega arith)
+-- and one that isn't is above the one before it
+above : (w : List ℕ) (r k next id : ℕ) → Follows w r k next → next ≤ id → id ≡ id_at w r k → 0 < k → id_at w r (k - 1) < id_at w r k
+above w r k next id f l e z = omega (arith, f.1 z)
 
-pub overflow_add-id : goal.overflow_add-id
-overflow_add-id c = let h = inside c c.loop-k.k (omega arith) in omega arith
-
-pub offset_bounds-words-first : goal.offset_bounds-words-first
-offset_bounds-words-first c = let h = inside c c.loop-k.k (omega arith) in omega arith
-
--- `first`, at another place
-abbrev first-2 : goal.After-shared_slice_known-in-loop-k-1-unread → ℕ
-first-2 l = l.postings_start.result + l.row_place.result
-
--- `first-at`, at another place
-first-at-2 : (l : goal.After-shared_slice_known-in-loop-k-1-unread) → first-2 l ≡ list_start l.args.words.now l.args.r
-first-at-2 l =
-    let s = l.postings_start.ensures.0 in
-    let p = l.row_place.ensures.0 in
-    omega arith
-
--- `inside`, at another place
-inside-2 : (c : goal.After-shared_slice_known-in-loop-k-1-unread) (k : ℕ) → k ≤ c.loop-k.k → first-2 c + k < length c.args.words.now
-inside-2 c k h =
-    let n = c.row_length-count.ensures.0 in
-    let t = c.loop-k-test.true in
-    id_in_lem c.args.words.now c.requires.0 c.args.r c.requires.2 k (first-2 c) (first-at-2 c) (omega arith)
-
-pub bounds-words-first : goal.bounds-words-first
-bounds-words-first c = let h = inside-2 c c.loop-k.k (omega arith) in omega arith
-
--- `first`, at another place
-abbrev first-3 : goal.After-shared_slice_known-in-loop-k-1 → ℕ
-first-3 l = l.postings_start.result + l.row_place.result
-
-pub overflow_cast-id : goal.overflow_cast-id
-overflow_cast-id c =
-    omega (arith, c.type_inv.words (first-3 c + c.loop-k.k))
-
-pub shape_of-tally-then-id-next : goal.shape_of-tally-then-id-next
-shape_of-tally-then-id-next c = c.loop-k.invariant.1
-
--- `first`, at another place
-abbrev first-4 : goal.Then-id-next → ℕ
-first-4 l = l.postings_start.result + l.row_place.result
-
--- `first-at`, at another place
-first-at-3 : (l : goal.Then-id-next) → first-4 l ≡ list_start l.args.words.now l.args.r
-first-at-3 l =
-    let s = l.postings_start.ensures.0 in
-    let p = l.row_place.ensures.0 in
-    omega arith
-
--- the id that is read is the row's k-th
-read : (l : goal.Then-id-next) (k : ℕ)
-    → get_or l.args.words.now (first-4 l + k) 0 ≡ id_at l.args.words.now l.args.r k
-read l k = id_read l.args.words.now l.args.r k (first-4 l) (first-at-3 l)
-
-pub returns-then-id-next : goal.returns-then-id-next
-returns-then-id-next c =
-    let n = c.row_length-count.ensures.0 in
-    let t = c.loop-k-test.true in
-    let a = read c c.loop-k.k in
-    let h = c.if-id-next.true in
-    let f = c.loop-k.invariant.2 in
-    let later : 0 < c.loop-k.k = ⊎_elim (λ (e : 0 ≡ c.loop-k.k). let z = f.0 (sym e) in absurd (omega arith)) (λ (d : 0 < c.loop-k.k). d) (eq-or-lt_of_le (from_zero c.loop-k.k)) in
-    let b = f.1 later in
-    record {
-      value = sym (list_out c.args.words.now c.args.r c.loop-k.k (omega arith) later (omega arith));
-      tallied = λ e. absurd (false≢true e);
-    }
-
-pub name_near-at-requires : goal.name_near-at-requires
-name_near-at-requires c = (c.requires.0.named, c.requires.1)
-
-pub shape_of-tally-then-names-at : goal.shape_of-tally-then-names-at
-shape_of-tally-then-names-at c = c.loop-k.invariant.1
-
--- `first`, at another place
-abbrev first-5 : goal.Then-names-at → ℕ
-first-5 l = l.postings_start.result + l.row_place.result
-
--- `first-at`, at another place
-first-at-4 : (l : goal.Then-names-at) → first-5 l ≡ list_start l.args.words.now l.args.r
-first-at-4 l =
-    let s = l.postings_start.ensures.0 in
-    let p = l.row_place.ensures.0 in
-    omega arith
-
--- `read`, at another place
-read-2 : (l : goal.Then-names-at) (k : ℕ)
-    → get_or l.args.words.now (first-5 l + k) 0 ≡ id_at l.args.words.now l.args.r k
-read-2 l k = id_read l.args.words.now l.args.r k (first-5 l) (first-at-4 l)
-
--- the place that was found is that of the row's k-th id
-found : (c : goal.Then-names-at)
-    → let w = c.args.words.now in
-    c.name_near-at.result ≡ name_for w (row_size w c.args.r) (id_at w c.args.r c.loop-k.k)
-found c =
-    c.name_near-at.ensures ∙ ap₂ (name_for c.args.words.now) c.row_size-size.ensures (read-2 c c.loop-k.k)
-
-pub returns-then-names-at : goal.returns-then-names-at
-returns-then-names-at c =
-    let n = c.row_length-count.ensures.0 in
-    let t = c.loop-k-test.true in
-    let m = c.name_count-names.ensures.0 in
-    let f = found c in
-    record {
-      value = sym (list_unnamed c.args.words.now c.args.r c.loop-k.k (omega arith) (omega arith));
-      tallied = λ e. absurd (false≢true e);
-    }
-
--- `first`, at another place
-abbrev first-6 : goal.Else-names-at → ℕ
-first-6 l = l.postings_start.result + l.row_place.result
-
--- `first-at`, at another place
-first-at-5 : (l : goal.Else-names-at) → first-6 l ≡ list_start l.args.words.now l.args.r
-first-at-5 l =
-    let s = l.postings_start.ensures.0 in
-    let p = l.row_place.ensures.0 in
-    omega arith
-
--- `read`, at another place
-read-3 : (l : goal.Else-names-at) (k : ℕ)
-    → get_or l.args.words.now (first-6 l + k) 0 ≡ id_at l.args.words.now l.args.r k
-read-3 l k = id_read l.args.words.now l.args.r k (first-6 l) (first-at-5 l)
-
--- `found`, at another place
-found-2 : (c : goal.Else-names-at)
-    → let w = c.args.words.now in
-    c.name_near-at.result ≡ name_for w (row_size w c.args.r) (id_at w c.args.r c.loop-k.k)
-found-2 c =
-    c.name_near-at.ensures ∙ ap₂ (name_for c.args.words.now) c.row_size-size.ensures (read-3 c c.loop-k.k)
-
--- and is one more in the tally
-step : (c : goal.Else-names-at)
-    → let at = c.name_near-at.result in
-    (at < length c.loop-k.tally) × (get_or c.loop-k.tally at 0 ≤ c.args.r)
-    × ListTo c.args.words.now c.args.r (c.loop-k.k + 1) (set c.loop-k.tally at (get_or c.loop-k.tally at 0 + 1))
-step c =
+pub returns-then-from-next-clause-value : goal.returns-then-from-next-clause-value
+returns-then-from-next-clause-value c =
     let w = c.args.words.now in
     let r = c.args.r in
-    let n = c.row_length-count.ensures.0 in
-    let t = c.loop-k-test.true in
-    let m = c.name_count-names.ensures.0 in
-    let x = c.loop-k.invariant.1 in
-    let long = c.requires.3 in
-    let a = read-3 c c.loop-k.k in
-    let above : 0 < c.loop-k.k → id_at w r (c.loop-k.k - 1) < id_at w r c.loop-k.k =
-    λ z. (let d = c.if-id-next.false in let f = c.loop-k.invariant.2.1 z in omega arith)
-    in
-    let more : c.loop-k.k < row_length w r = omega arith in
-    let name : c.name_near-at.result < name_count w = omega arith in (
-      omega arith,
-      tally_most w c.requires.0 r c.requires.2 c.loop-k.k c.loop-k.tally c.loop-k.invariant.0 more above c.name_near-at.result (found-2 c) name,
-      list_more w c.requires.0 r c.requires.2 c.loop-k.k c.loop-k.tally c.loop-k.invariant.0 more above c.name_near-at.result (found-2 c) name (omega arith),
-    )
+    let s = c.postings_start in
+    let p = c.row_place in
+    let n = c.row_length in
+    let k = c.loop-id.id-index in
+    let i = part_id w c.requires.0 r c.requires.2 s.result p.result n.result s.ensures.0 p.ensures.0 n.ensures.0 k c.loop-id-test.true in
+    let b = not_above w r k c.loop-id.next c.from.result c.loop-id.invariant.1 c.if-from-next.true (c.from.ensures ∙ i.1) in
+    sym (list_out w r k i.0 b.0 b.1)
 
-pub offset_bounds-tally-at : goal.offset_bounds-tally-at
-offset_bounds-tally-at c =
-    let h = (step c).0 in
-    let x = c.loop-k.invariant.1 in
-    omega arith
-
--- `first`, at another place
-abbrev first-7 : goal.After-slice_known-in-loop-k-1-unread → ℕ
-first-7 l = l.postings_start.result + l.row_place.result
-
--- `first-at`, at another place
-first-at-6 : (l : goal.After-slice_known-in-loop-k-1-unread) → first-7 l ≡ list_start l.args.words.now l.args.r
-first-at-6 l =
-    let s = l.postings_start.ensures.0 in
-    let p = l.row_place.ensures.0 in
-    omega arith
-
--- `read`, at another place
-read-4 : (l : goal.After-slice_known-in-loop-k-1-unread) (k : ℕ)
-    → get_or l.args.words.now (first-7 l + k) 0 ≡ id_at l.args.words.now l.args.r k
-read-4 l k = id_read l.args.words.now l.args.r k (first-7 l) (first-at-6 l)
-
--- `found`, at another place
-found-3 : (c : goal.After-slice_known-in-loop-k-1-unread)
-    → let w = c.args.words.now in
-    c.name_near-at.result ≡ name_for w (row_size w c.args.r) (id_at w c.args.r c.loop-k.k)
-found-3 c =
-    c.name_near-at.ensures ∙ ap₂ (name_for c.args.words.now) c.row_size-size.ensures (read-4 c c.loop-k.k)
-
--- `step`, at another place
-step-2 : (c : goal.After-slice_known-in-loop-k-1-unread)
-    → let at = c.name_near-at.result in
-    (at < length c.loop-k.tally) × (get_or c.loop-k.tally at 0 ≤ c.args.r)
-    × ListTo c.args.words.now c.args.r (c.loop-k.k + 1) (set c.loop-k.tally at (get_or c.loop-k.tally at 0 + 1))
-step-2 c =
+pub returns-in_default-clause-value : goal.returns-in_default-clause-value
+returns-in_default-clause-value c =
     let w = c.args.words.now in
     let r = c.args.r in
-    let n = c.row_length-count.ensures.0 in
-    let t = c.loop-k-test.true in
-    let m = c.name_count-names.ensures.0 in
-    let x = c.loop-k.invariant.1 in
-    let long = c.requires.3 in
-    let a = read-4 c c.loop-k.k in
-    let above : 0 < c.loop-k.k → id_at w r (c.loop-k.k - 1) < id_at w r c.loop-k.k =
-    λ z. (let d = c.if-id-next.false in let f = c.loop-k.invariant.2.1 z in omega arith)
-    in
-    let more : c.loop-k.k < row_length w r = omega arith in
-    let name : c.name_near-at.result < name_count w = omega arith in (
-      omega arith,
-      tally_most w c.requires.0 r c.requires.2 c.loop-k.k c.loop-k.tally c.loop-k.invariant.0 more above c.name_near-at.result (found-3 c) name,
-      list_more w c.requires.0 r c.requires.2 c.loop-k.k c.loop-k.tally c.loop-k.invariant.0 more above c.name_near-at.result (found-3 c) name (omega arith),
-    )
-
-pub bounds-tally-at : goal.bounds-tally-at
-bounds-tally-at c = (step-2 c).0
-
--- `first`, at another place
-abbrev first-8 : goal.After-slice_known-in-loop-k-1 → ℕ
-first-8 l = l.postings_start.result + l.row_place.result
-
--- `first-at`, at another place
-first-at-7 : (l : goal.After-slice_known-in-loop-k-1) → first-8 l ≡ list_start l.args.words.now l.args.r
-first-at-7 l =
-    let s = l.postings_start.ensures.0 in
-    let p = l.row_place.ensures.0 in
-    omega arith
-
--- `read`, at another place
-read-5 : (l : goal.After-slice_known-in-loop-k-1) (k : ℕ)
-    → get_or l.args.words.now (first-8 l + k) 0 ≡ id_at l.args.words.now l.args.r k
-read-5 l k = id_read l.args.words.now l.args.r k (first-8 l) (first-at-7 l)
-
--- `found`, at another place
-found-4 : (c : goal.After-slice_known-in-loop-k-1)
-    → let w = c.args.words.now in
-    c.name_near-at.result ≡ name_for w (row_size w c.args.r) (id_at w c.args.r c.loop-k.k)
-found-4 c =
-    c.name_near-at.ensures ∙ ap₂ (name_for c.args.words.now) c.row_size-size.ensures (read-5 c c.loop-k.k)
-
--- `step`, at another place
-step-3 : (c : goal.After-slice_known-in-loop-k-1)
-    → let at = c.name_near-at.result in
-    (at < length c.loop-k.tally) × (get_or c.loop-k.tally at 0 ≤ c.args.r)
-    × ListTo c.args.words.now c.args.r (c.loop-k.k + 1) (set c.loop-k.tally at (get_or c.loop-k.tally at 0 + 1))
-step-3 c =
-    let w = c.args.words.now in
-    let r = c.args.r in
-    let n = c.row_length-count.ensures.0 in
-    let t = c.loop-k-test.true in
-    let m = c.name_count-names.ensures.0 in
-    let x = c.loop-k.invariant.1 in
-    let long = c.requires.3 in
-    let a = read-5 c c.loop-k.k in
-    let above : 0 < c.loop-k.k → id_at w r (c.loop-k.k - 1) < id_at w r c.loop-k.k =
-    λ z. (let d = c.if-id-next.false in let f = c.loop-k.invariant.2.1 z in omega arith)
-    in
-    let more : c.loop-k.k < row_length w r = omega arith in
-    let name : c.name_near-at.result < name_count w = omega arith in (
-      omega arith,
-      tally_most w c.requires.0 r c.requires.2 c.loop-k.k c.loop-k.tally c.loop-k.invariant.0 more above c.name_near-at.result (found-4 c) name,
-      list_more w c.requires.0 r c.requires.2 c.loop-k.k c.loop-k.tally c.loop-k.invariant.0 more above c.name_near-at.result (found-4 c) name (omega arith),
-    )
+    let s = c.postings_start in
+    let p = c.row_place in
+    let n = c.row_length in
+    let k = c.loop-id.id-index in
+    let i = part_id w c.requires.0 r c.requires.2 s.result p.result n.result s.ensures.0 p.ensures.0 n.ensures.0 k c.loop-id-test.true in
+    sym (list_unnamed w r k i.0 (λ at h. c.in_default.ensures at (named_as h (sym c.row_size-size.ensures) (sym i.1))))
 
 pub overflow_add-tally : goal.overflow_add-tally
 overflow_add-tally c =
-    let h = (step-3 c).1 in
-    let r = c.requires.2 in
-    omega (arith, c.type_inv.words 1)
+    let w = c.args.words.now in
+    let r = c.args.r in
+    let s = c.postings_start in
+    let p = c.row_place in
+    let n = c.row_length in
+    let k = c.loop-id.id-index in
+    let i = part_id w c.requires.0 r c.requires.2 s.result p.result n.result s.ensures.0 p.ensures.0 n.ensures.0 k c.loop-id-test.true in
+    let u = above w r k c.loop-id.next c.from.result c.loop-id.invariant.1 c.if-from-next.false (c.from.ensures ∙ i.1) in
+    let most = tally_most w c.requires.0 r c.requires.2 k c.loop-id.tally c.loop-id.invariant.0 i.0 u c.in-Some.at (named_as (c.in-Some.ensures) c.row_size-size.ensures i.1) in
+    omega (arith, c.requires.2, c.type_inv.words 1)
 
-pub bounds-tally-at-in-loop-k : goal.bounds-tally-at-in-loop-k
-bounds-tally-at-in-loop-k c = (step-3 c).0
-
-pub overflow_cast-next : goal.overflow_cast-next
-overflow_cast-next c =
-    omega (arith, c.type_inv.words (first-8 c + c.loop-k.k))
-
-pub overflow_add-next : goal.overflow_add-next
-overflow_add-next c =
-    omega (arith, c.type_inv.words (first-8 c + c.loop-k.k))
-
-pub loop-k-preserved : goal.loop-k-preserved
-loop-k-preserved c =
-    let e : c.loop-k.k + 1 - 1 ≡ c.loop-k.k = omega arith in (
-      (step-3 c).2,
-      rw length-set c.loop-k.invariant.1,
-      ((λ z. absurd (omega arith)), (λ z. ap (λ (i : ℕ). i + 1) (read-5 c c.loop-k.k ∙ ap (id_at c.args.words.now c.args.r) (sym e)))),
+pub loop-id-preserved : goal.loop-id-preserved
+loop-id-preserved c =
+    let w = c.args.words.now in
+    let r = c.args.r in
+    let s = c.postings_start in
+    let p = c.row_place in
+    let n = c.row_length in
+    let k = c.loop-id.id-index in
+    let i = part_id w c.requires.0 r c.requires.2 s.result p.result n.result s.ensures.0 p.ensures.0 n.ensures.0 k c.loop-id-test.true in
+    let u = above w r k c.loop-id.next c.from.result c.loop-id.invariant.1 c.if-from-next.false (c.from.ensures ∙ i.1) in
+    let e : k + 1 - 1 ≡ k = omega arith in (
+      list_more w c.requires.0 r c.requires.2 k c.loop-id.tally c.loop-id.invariant.0 i.0 u c.in-Some.at (named_as (c.in-Some.ensures) c.row_size-size.ensures i.1)
+          (omega (arith, c.requires.3, c.loop-id.auto.tally)),
+      (λ z. absurd (omega arith), λ z. ap (λ (x : ℕ). x + 1) (c.from-next.ensures ∙ i.1 ∙ ap (id_at w r) (sym e))),
     )
 
-pub shape_of-tally : goal.shape_of-tally
-shape_of-tally c = c.loop-k.invariant.1
+pub returns-clause-value : goal.returns-clause-value
+returns-clause-value c =
+    let s = c.postings_start in
+    let p = c.row_place in
+    let n = c.row_length in
+    let l = part_long c.args.words.now c.requires.0 c.args.r c.requires.2 s.result p.result n.result s.ensures.0 p.ensures.0 n.ensures.0 in
+    sym (list_whole c.args.words.now c.requires.0 c.args.r c.requires.2 c.loop-id.id-index c.loop-id.tally c.loop-id.invariant.0 (omega arith)).0
 
-pub returns : goal.returns
-returns c =
-    let n = c.row_length-count.ensures.0 in
-    let t = c.loop-k-test.false in
-    let h = list_whole c.args.words.now c.requires.0 c.args.r c.requires.2 c.loop-k.k c.loop-k.tally c.loop-k.invariant.0 (omega arith) in
-    record {
-      value = sym h.0;
-      tallied = λ e. h.1;
-    }
+pub returns-clause-tallied : goal.returns-clause-tallied
+returns-clause-tallied c =
+    let s = c.postings_start in
+    let p = c.row_place in
+    let n = c.row_length in
+    let l = part_long c.args.words.now c.requires.0 c.args.r c.requires.2 s.result p.result n.result s.ensures.0 p.ensures.0 n.ensures.0 in
+    λ e. (list_whole c.args.words.now c.requires.0 c.args.r c.requires.2 c.loop-id.id-index c.loop-id.tally c.loop-id.invariant.0 (omega arith)).1

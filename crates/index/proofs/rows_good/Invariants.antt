@@ -1,11 +1,6 @@
 -- `rows_good` meets its contract: what was looked at of the first r rows is good, and the sum of their counts is due next.
-use Prim.Native.Nat.{◌-◌}
-use Rattle.words.specs.Words.{row_count}
 use Rattle.index.proofs.Check.{RowsTo}
 use Rattle.index.proofs.rows_good.Given as goal
 
 abbrev pub invariant-loop-r : goal.invariant-loop-r
 invariant-loop-r l = RowsTo l.words l.r l.due
-
-abbrev pub decreases-loop-r : goal.decreases-loop-r
-decreases-loop-r l = row_count l.words - l.r

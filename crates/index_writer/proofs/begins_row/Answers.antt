@@ -15,24 +15,14 @@ pub returns-then-i-eq0 : goal.returns-then-i-eq0
 unfolding begins_row
 returns-then-i-eq0 c = rw c.if-i-eq0.true
 
-pub run_key-requires : goal.run_key-requires
-run_key-requires c =
-    let h = c.requires.0 in
-    let n = c.if-i-eq0.false in
-    c.requires.1.named (c.args.i - 1) (omega arith)
-
-pub run_key-requires-2 : goal.run_key-requires-2
-run_key-requires-2 c =
-    c.requires.1.named c.args.i c.requires.0
-
-pub returns : goal.returns
+pub returns-else-i-eq0 : goal.returns-else-i-eq0
 unfolding begins_row
-returns c =
+returns-else-i-eq0 c =
     let n = c.if-i-eq0.false in
     let a = c.args in
     let h = c.requires.0 in
     let e : a.i ≡ suc (a.i - 1) = omega arith in
     let ts = triples_at a.names.now a.keys.now in
-    ap₂ (λ (x y : ℕ). not (eqb x y)) c.run_key.ensures c.run_key-2.ensures
+    ap₂ (λ (x y : ℕ). not (eqb x y)) c.run_key.ensures c.run_key-else-i-eq0.ensures
     ∙ ap not (same_row c.requires.1 (a.i - 1) a.i (omega arith) h)
     ∙ sym (ap (begins_row ts) e ∙ ap (λ (k : ℕ). not (eqb (get_or ts (a.i - 1) 0 / id_span) (get_or ts k 0 / id_span))) (sym e))

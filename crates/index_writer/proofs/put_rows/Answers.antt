@@ -1,5 +1,5 @@
 -- `put_rows` meets its contract: after i turns, the rows of the first i postings are there.
-use mathlib.Core.Path.{◌≡◌, refl, subst, ◌∙◌}
+use mathlib.Core.Path.{◌≡◌, subst}
 use Prim.Native.Nat.{ℕ}
 use native.Mathlib.Omega.{arith}
 use lib.ListN.{length}
@@ -9,20 +9,11 @@ use Rattle.index_writer.proofs.Rows.{at_nil}
 use Rattle.index_writer.proofs.put_rows.Goals as goal
 
 pub loop-i-init : goal.loop-i-init
-loop-i-init c = let a = c.args in (omega arith, refl, at_nil (triples_at a.names.now a.keys.now) a.out.now)
-
-pub put_row-d-requires : goal.put_row-d-requires
-put_row-d-requires c = let l = c.loop-i in (c.loop-i-test.true, c.requires, l.invariant.2)
-
-pub loop-i-preserved : goal.loop-i-preserved
-loop-i-preserved c = let y = c.put_row-d in let l = c.loop-i in (omega arith, y.auto.out ∙ l.invariant.1, y.ensures)
-
-pub shape_of-out : goal.shape_of-out
-shape_of-out c = c.loop-i.invariant.1
+loop-i-init c = let a = c.args in at_nil (triples_at a.names.now a.keys.now) a.out.now
 
 pub returns : goal.returns
 returns c =
     let l = c.loop-i in
     let a = c.args in
     let e : l.i ≡ length a.keys.now = omega arith in
-    subst (λ (k : ℕ). RowsAt (triples_at a.names.now a.keys.now) k l.d l.out) e l.invariant.2
+    subst (λ (k : ℕ). RowsAt (triples_at a.names.now a.keys.now) k l.d l.out) e l.invariant

@@ -17,39 +17,24 @@ use Rattle.index_writer.proofs.put_tail.Goals as goal
 pub slice_bounds-put_rows-end-2 : goal.slice_bounds-put_rows-end-2
 slice_bounds-put_rows-end-2 c = let a = c.args in sym (length-take-le (length a.words.now - length a.keys.now) a.words.now (omega arith))
 
-few : (c : goal.After-slice_known-2-1) → c.put_rows-d.result ≤ most_postings
-few c =
-    let e = c.put_rows-d.ensures.count in
-    let n = length-map c.args.keys.now (triple_at c.args.names.now) in
-    let r = rows_few (triples_at c.args.names.now c.args.keys.now) (length c.args.keys.now) (omega arith) in
-    let m = c.requires.0.most in
+-- the rows that were put are those of all postings
+all : (names keys : List ℕ) → take (length keys) (triples_at names keys) ≡ triples_at names keys
+all names keys = take_all (length keys) (triples_at names keys) (omega (arith, length-map keys (triple_at names)))
+
+few : (names keys : List ℕ) (d : ℕ) → d ≡ length (runs_of (take (length keys) (triples_at names keys))) → length keys ≤ most_postings → d ≤ most_postings
+few names keys d e m =
+    let r = rows_few (triples_at names keys) (length keys) (omega (arith, length-map keys (triple_at names))) in
     omega arith
 
 pub overflow_mul-rows : goal.overflow_mul-rows
-overflow_mul-rows c = let f = few c in record { fits = omega arith }
+overflow_mul-rows c = let f = few _ _ _ c.put_rows-d.ensures.count c.requires.0.most in record { fits = omega arith }
 
--- the rows that were put are those of all postings
-all : (c : goal.Then-room-rows) → take (length c.args.keys.now) (triples_at c.args.names.now c.args.keys.now) ≡ triples_at c.args.names.now c.args.keys.now
-all c =
-    let n = length-map c.args.keys.now (triple_at c.args.names.now) in
-    take_all (length c.args.keys.now) (triples_at c.args.names.now c.args.keys.now) (omega arith)
-
-counted : (c : goal.Then-room-rows) → c.put_rows-d.result ≡ length (runs_of (triples_at c.args.names.now c.args.keys.now))
-counted c = c.put_rows-d.ensures.count ∙ ap (λ (l : List ℕ). length (runs_of l)) (all c)
+counted : (names keys : List ℕ) (d : ℕ) → d ≡ length (runs_of (take (length keys) (triples_at names keys))) → d ≡ length (runs_of (triples_at names keys))
+counted names keys d e = e ∙ ap (λ (l : List ℕ). length (runs_of l)) (all names keys)
 
 pub returns-then-room-rows : goal.returns-then-room-rows
 returns-then-room-rows c =
-    (counted c, λ h. (let t = c.if-room-rows.true in absurd (omega arith)))
-
--- `all`, at another place
-all-2 : (c : goal.After-slice_known-4-1) → take (length c.args.keys.now) (triples_at c.args.names.now c.args.keys.now) ≡ triples_at c.args.names.now c.args.keys.now
-all-2 c =
-    let n = length-map c.args.keys.now (triple_at c.args.names.now) in
-    take_all (length c.args.keys.now) (triples_at c.args.names.now c.args.keys.now) (omega arith)
-
--- `counted`, at another place
-counted-2 : (c : goal.After-slice_known-4-1) → c.put_rows-d.result ≡ length (runs_of (triples_at c.args.names.now c.args.keys.now))
-counted-2 c = c.put_rows-d.ensures.count ∙ ap (λ (l : List ℕ). length (runs_of l)) (all-2 c)
+    (counted _ _ _ c.put_rows-d.ensures.count, λ h. (let t = c.if-room-rows.true in absurd (omega arith)))
 
 pub returns : goal.returns
 returns c =
@@ -63,8 +48,8 @@ returns c =
     let lr : length r ≡ room = c.put_rows-d.auto.out ∙ length-take-le room a.words.now (omega arith) in
     let le = c.put_lists.ensures in
     let ll : length lists ≡ p = ap length le ∙ length-map a.keys.now (id_at a.names.now) in (
-      counted-2 c,
+      counted _ _ _ c.put_rows-d.ensures.count,
       λ h.
           tail_put a.words.now r lists c.fill.new.words room (4 * d) p ((4 * d + p) - 4 * d) (length (put_mid (4 * d) ((4 * d + p) - 4 * d) (r ++ drop room a.words.now) lists) - (4 * d + p)) lr (omega arith) (omega arith) ll (omega arith) refl c.fill.ensures
-          ∙ ap (pad_to (length a.words.now)) (ap₂ ◌++◌ (c.put_rows-d.ensures.words (omega arith) ∙ ap (λ (l : List ℕ). row_words 0 (runs_of l)) (all-2 c)) le),
+          ∙ ap (pad_to (length a.words.now)) (ap₂ ◌++◌ (c.put_rows-d.ensures.words (omega arith) ∙ ap (λ (l : List ℕ). row_words 0 (runs_of l)) (all a.names.now a.keys.now)) le),
     )

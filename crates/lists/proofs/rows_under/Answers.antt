@@ -1,6 +1,7 @@
 -- `rows_under` meets its contract: the rows that are known have smaller sizes, those that are searched may have, and no other has.
 use mathlib.Core.Path.{◌≡◌}
-use Prim.Native.Nat.{◌+◌, ◌≤◌}
+use mathlib.Core.List.{List}
+use Prim.Native.Nat.{ℕ, ◌+◌, ◌≤◌}
 use native.Mathlib.Omega.{arith}
 use Rattle.words.specs.Words.{row_count}
 use Rattle.index.proofs.Laws.{good_three}
@@ -10,19 +11,15 @@ use Rattle.lists.proofs.Rows.{rows_most}
 use Rattle.lists.proofs.rows_under.Goals as goal
 
 -- no more are known than there are
-few : (s : goal.After-shared_slice_known-1) → s.args.known ≤ row_count s.args.words.now
-few s = let m = under_most s.args.words.now s.args.size in let k = s.requires.1 in omega arith
+few : (w : List ℕ) (size known : ℕ) → known ≤ rows_under w size → known ≤ row_count w
+few w size known k = omega (arith, under_most w size)
 
 pub reach-n-requires : goal.reach-n-requires
-reach-n-requires c = (c.requires.0, few c)
-
--- `few`, at another place
-few-2 : (s : goal.After-reach-n) → s.args.known ≤ row_count s.args.words.now
-few-2 s = let m = under_most s.args.words.now s.args.size in let k = s.requires.1 in omega arith
+reach-n-requires c = (c.requires.0, few c.args.words.now c.args.size c.args.known c.requires.1)
 
 pub row_start-first-requires : goal.row_start-first-requires
 row_start-first-requires c =
-    let m = few-2 c in
+    let m = few c.args.words.now c.args.size c.args.known c.requires.1 in
     let n = rows_most c.args.words.now c.requires.0 in
     (good_three _ c.requires.0, omega arith)
 

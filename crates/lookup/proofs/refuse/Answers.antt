@@ -1,33 +1,55 @@
 -- The refusal fits the buffer and is all of the output.
-use Rattle.std.proofs.Common.{◌∙◌, ap, [], ◌∷◌, length, arith}
-use Rattle.fields.specs.declared.Written.{Written}
-use Rattle.answers.specs.Output.{refusal_line}
-use Rattle.fields.proofs.Fitted.{fitting_whole, written_plain, out_plain}
+use Rattle.std.proofs.Common.{◌≤◌, ◌∙◌, sym, [], ◌∷◌, length, take, take_all, arith}
+use Rattle.refusals.proofs.Refusals.{refused}
+use Rattle.answers.specs.Output.{output_of}
+use Rattle.fields.proofs.Fitted.{out_plain}
 use Rattle.frames.specs.Frames.{refusal_frame}
-use Rattle.answers.proofs.Reading.{refusal_length}
-use Rattle.lookup.proofs.Sending.{refusal_next, refusal_whole}
+use Rattle.lookup.proofs.Sending.{refusal_ok, refusal_len, refusal_within, refusal_next, refusal_whole}
 use Rattle.lookup.proofs.refuse.Goals as goal
+
+pub unwrap-len-requires : goal.unwrap-len-requires
+unwrap-len-requires g c = refusal_ok c.number.result _ _ c.requires.1 c.write_refusal.ensures.value
+
+pub slice_bounds-hand_over-end : goal.slice_bounds-hand_over-end
+slice_bounds-hand_over-end g c =
+    let w = c.write_refusal in
+    let e = c.number.ensures in
+    (refusal_within c.args.input.now c.args.out.now w.new.out c.number.result _ (e ∙ c.requires.0) (λ z. refused _ (sym e ∙ z))
+    (refusal_len c.number.result _ _ c.requires.1 w.ensures.value _ c.unwrap-len.ensures)
+    c.requires.1
+    (w.ensures.out_after ∙ out_plain refusal_frame (c.number.result ∷ 0 ∷ []) c.args.out.now)).0
+
+pub slice_bounds-hand_over-end-2 : goal.slice_bounds-hand_over-end-2
+slice_bounds-hand_over-end-2 g c =
+    let w = c.write_refusal in
+    let e = c.number.ensures in
+    (refusal_within c.args.input.now c.args.out.now w.new.out c.number.result _ (e ∙ c.requires.0) (λ z. refused _ (sym e ∙ z))
+    (refusal_len c.number.result _ _ c.requires.1 w.ensures.value _ c.unwrap-len.ensures)
+    c.requires.1
+    (w.ensures.out_after ∙ out_plain refusal_frame (c.number.result ∷ 0 ∷ []) c.args.out.now)).1
 
 pub hand_over-requires : goal.hand_over-requires
 hand_over-requires g c =
     let a = c.args in
-    let p = c.requires in
-    let w = c.write_refusal-refusal in
-    let l = p.2 in
-    let m = refusal_length a.number 0 in
-    let e = w.ensures.value ∙ written_plain refusal_frame (a.number ∷ 0 ∷ []) (length a.out.now) ∙ fitting_whole (refusal_line a.number 0) (length a.out.now) (omega arith) in
-    refusal_next a.input.now a.out.now w.new.out a.number w.result.number w.result.len p.0 p.1
-    (ap (λ (x : Written). x.number) e)
-    (ap (λ (x : Written). x.len) e)
-    l
-    (w.ensures.out_after ∙ out_plain refusal_frame (a.number ∷ 0 ∷ []) a.out.now)
+    let w = c.write_refusal in
+    let e = c.number.ensures in
+    refusal_next a.input.now a.out.now w.new.out c.number.result _ (e ∙ c.requires.0) (λ z. refused _ (sym e ∙ z))
+    (refusal_len c.number.result _ _ c.requires.1 w.ensures.value _ c.unwrap-len.ensures)
+    c.requires.1
+    (w.ensures.out_after ∙ out_plain refusal_frame (c.number.result ∷ 0 ∷ []) a.out.now)
 
 pub returns : goal.returns
 returns g c =
     let a = c.args in
-    let p = c.requires in
-    let w = c.write_refusal-refusal in
-    let l = p.2 in
-    let m = refusal_length a.number 0 in
-    let e = w.ensures.value ∙ written_plain refusal_frame (a.number ∷ 0 ∷ []) (length a.out.now) ∙ fitting_whole (refusal_line a.number 0) (length a.out.now) (omega arith) in
-    λ t. c.hand_over.ensures t ∙ refusal_whole a.input.now a.out.now w.new.out a.number w.result.number w.result.len p.0 p.1 (ap (λ (x : Written). x.len) e)
+    let w = c.write_refusal in
+    let e = c.number.ensures in
+    let n =
+    refusal_whole a.input.now a.out.now w.new.out c.number.result _ (e ∙ c.requires.0) (λ z. refused _ (sym e ∙ z))
+    (refusal_len c.number.result _ _ c.requires.1 w.ensures.value _ c.unwrap-len.ensures) in
+    let k =
+    (refusal_within a.input.now a.out.now w.new.out c.number.result _ (e ∙ c.requires.0) (λ z. refused _ (sym e ∙ z))
+    (refusal_len c.number.result _ _ c.requires.1 w.ensures.value _ c.unwrap-len.ensures)
+    c.requires.1
+    (w.ensures.out_after ∙ out_plain refusal_frame (c.number.result ∷ 0 ∷ []) a.out.now)).1 in
+    let h : length (output_of a.input.now) ≤ length (take c.unwrap-len.result w.new.out) = omega arith in
+    rw (take_all (length (take c.unwrap-len.result w.new.out)) (output_of a.input.now) h) at c.hand_over.ensures

@@ -11,7 +11,4 @@ use Rattle.names.proofs.features_good.Given as goal
 
 abbrev pub invariant-loop-i : goal.invariant-loop-i
 invariant-loop-i l =
-    (l.i ≤ l.size) × (l.size ≤ most_features) × (l.set.items ≡ tabulate (numbered (gram_at gram_length characters l.name)) l.i ++ replicate (most_features - l.i) 0) × (length l.marked ≡ marks) × Marked (gram_at gram_length characters l.name) l.i l.marked × Ends l.name l.i l.gram
-
-abbrev pub decreases-loop-i : goal.decreases-loop-i
-decreases-loop-i l = l.size - l.i
+    (l.size ≤ most_features) × (l.set.items ≡ tabulate (numbered (gram_at gram_length characters l.name)) l.i ++ replicate (most_features - l.i) 0) × (length l.marked ≡ marks) × Marked (gram_at gram_length characters l.name) l.i l.marked × Ends l.name l.i l.gram

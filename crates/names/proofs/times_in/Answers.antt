@@ -1,26 +1,24 @@
--- `times_in` meets its contract: after j turns, the count among the first j.
-use mathlib.Core.Path.{◌≡◌, sym, ap, ◌∙◌}
-use Prim.Native.Nat.{ℕ, ◌/◌, ◌+◌}
-use native.Mathlib.Omega.{arith}
-use lib.ListN.{get_or}
+-- `times_in` meets its contract: after so many turns, the count among as many features.
+use Rattle.std.proofs.Common.{◌≡◌, ℕ, ◌/◌, ◌+◌, ◌<◌, get_or, length, take, sym, ap, ◌∙◌, arith}
+use Rattle.std.proofs.lemmas.List.{get_or-take}
+use Rattle.std.proofs.lemmas.Grind.{common_steps}
 use Rattle.names.specs.Features.{times_in}
 use Rattle.names.proofs.Lemmas.{times_nil, times_met, times_passed}
 use Rattle.names.proofs.times_in.Goals as goal
-use Rattle.names.proofs.times_in.Goals.{else-items-j, then-items-j}
+use Rattle.names.proofs.times_in.Goals.{else-item-gram, then-item-gram}
 
-pub loop-j-init : goal.loop-j-init
-loop-j-init c = (omega arith, omega arith, sym (times_nil _ _))
+pub loop-item-init : goal.loop-item-init
+loop-item-init c = (omega arith, sym (times_nil _ _))
 
-pub loop-j-preserved : goal.loop-j-preserved
-loop-j-preserved c =
-    let f : ℕ → ℕ = λ (i : ℕ). get_or c.args.items.now i 0 / 256 in
+pub loop-item-preserved : goal.loop-item-preserved
+loop-item-preserved c =
+    let s = c.args.items.now in
+    let f : ℕ → ℕ = λ (i : ℕ). get_or s i 0 / 256 in
     let v = c.args.gram in
-    elim c.if-items-j.branch [
-      | then-items-j w ↦ (omega arith, omega arith, w.n-is ∙ ap (λ (m : ℕ). m + 1) c.loop-j.invariant.2 ∙ sym (times_met f v c.loop-j.j w.if-items-j.true))
-      | else-items-j w ↦ (omega arith, omega arith, w.n-is ∙ c.loop-j.invariant.2 ∙ sym (times_passed f v c.loop-j.j w.if-items-j.false))
+    let i = c.loop-item.item-index in
+    let n : i < c.args.k = grind (arith, common_steps) in
+    let e = ap (λ (x : ℕ). x / 256) (get_or-take c.args.k s i 0 n) in
+    elim c.if-item-gram.branch [
+      | then-item-gram w ↦ (omega arith, w.n-is ∙ ap (λ (m : ℕ). m + 1) c.loop-item.invariant.1 ∙ sym (times_met f v i (sym e ∙ w.if-item-gram.true)))
+      | else-item-gram w ↦ (omega arith, w.n-is ∙ c.loop-item.invariant.1 ∙ sym (times_passed f v i (λ h. w.if-item-gram.false (e ∙ h))))
     ]
-
-pub returns : goal.returns
-returns c =
-    let e : c.loop-j.j ≡ c.args.k = omega arith in
-    (c.loop-j.invariant.2 ∙ ap (times_in (λ (i : ℕ). get_or c.args.items.now i 0 / 256) c.args.gram) e, omega arith)

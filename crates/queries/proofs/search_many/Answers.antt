@@ -34,4 +34,4 @@ returns c =
     let d = as_columns a.ids.now a.shared.now a.sizes.now a.least.now in
     asked a.bytes.now a.ends.now a.measure a.p a.q a.allowance a.words.now o _ d _ _ _ y.result.queries y.result.rows _
     c.room_of-n.ensures c.room_of-room.ensures
-    y.ensures.queries_value.0 y.ensures.queries_value.1 c.number_of-number.ensures y.ensures.touches_after y.ensures.least_after
+    y.ensures.queries_value.0 y.ensures.queries_value.1 c.outcome_of-outcome.ensures y.ensures.touches_after y.ensures.least_after

@@ -1,119 +1,60 @@
 -- `judge_line` meets its contract: the tests come in the order of the definition.
-use mathlib.Core.Path.{◌≡◌, sym, ap, ◌∙◌}
+use mathlib.Core.Path.{refl, sym, ap, ◌∙◌}
 use native.Mathlib.Omega.{arith}
 use lib.Seq.{length-take-le}
+use Rattle.std.proofs.lemmas.Result.{err_from_is_err_and}
 use Rattle.names.specs.Names.{judge_of}
-use Rattle.register.specs.Build.{name_of}
-use Rattle.register.proofs.Judging.{judged_name, judged_id, judged_count, judged_good, LineRead, line_read, heard_bad}
+use Rattle.refusals.proofs.Refusals.{refused}
+use Rattle.register.proofs.Judging.{judged_name, judged_id, judged_count, judged_good, read_bad, line_read, heard_bad}
 use Rattle.register.proofs.judge_line.Goals as goal
 
--- the line, where it was read
-heard : (c : goal.Then-read-ne0) → LineRead c.read_name-read.result c.args.line.now c.read_name-read.new.name
-heard c =
-    let y = c.read_name-read in
-    line_read y.result c.args.line.now c.args.name.now y.new.name c.requires y.ensures.result_value y.ensures.name_after
-
-pub returns-then-read-ne0 : goal.returns-then-read-ne0
-returns-then-read-ne0 c =
-    let a = c.args in
-    let y = c.read_name-read in
-    let t = c.if-read-ne0.true in
-    heard_bad a.count a.next a.line.now y.new.name y.result.number y.result.id y.result.len ((heard c).bad t a.count a.next) t
-
--- `heard`, at another place
-heard-2 : (c : goal.Else-read-ne0) → LineRead c.read_name-read.result c.args.line.now c.read_name-read.new.name
-heard-2 c =
-    let y = c.read_name-read in
-    line_read y.result c.args.line.now c.args.name.now y.new.name c.requires y.ensures.result_value y.ensures.name_after
+pub returns-in_err-read : goal.returns-in_err-read
+returns-in_err-read c =
+    let p = err_from_is_err_and c.from_residual.result c.from_residual.ensures.1 in
+    let n = refused c.in_err-read.field-0.0 in
+    let y = c.in_err-read.ensures in
+    rw (p.1, p.2) (heard_bad _ _ _ _ _ _ _ (read_bad _ _ _ _ c.requires y.result_value y.name_after c.args.count c.args.next n) n)
 
 pub slice_bounds-judge-end : goal.slice_bounds-judge-end
-slice_bounds-judge-end c = (heard-2 c).within c.if-read-ne0.false
+slice_bounds-judge-end c = let y = c.in_ok-read.ensures in (line_read _ _ _ _ c.requires y.result_value y.name_after refl).within
 
 pub slice_bounds-judge-end-2 : goal.slice_bounds-judge-end-2
-slice_bounds-judge-end-2 c = let y = c.read_name-read in sym (length-take-le y.result.len y.new.name ((heard-2 c).within c.if-read-ne0.false))
+slice_bounds-judge-end-2 c = let y = c.in_ok-read.ensures in sym (length-take-le _ _ (line_read _ _ _ _ c.requires y.result_value y.name_after refl).within)
 
--- `heard`, at another place
-heard-3 : (c : goal.Then-number-ne0) → LineRead c.read_name-read.result c.args.line.now c.read_name-read.new.name
-heard-3 c =
-    let y = c.read_name-read in
-    line_read y.result c.args.line.now c.args.name.now y.new.name c.requires y.ensures.result_value y.ensures.name_after
+pub returns-in_err-judge : goal.returns-in_err-judge
+returns-in_err-judge c =
+    let p = err_from_is_err_and c.from_residual-in_err-judge.result c.from_residual-in_err-judge.ensures.1 in
+    let y = c.in_ok-read.ensures in
+    let h = line_read _ _ _ _ c.requires y.result_value y.name_after refl in
+    let r = refused c.in_err-judge.field-0.0 in
+    let n = c.in_err-judge.ensures ∙ ap judge_of h.name in
+    rw (p.1, p.2) (heard_bad _ _ _ _ _ _ _ (n ∙ sym (judged_name c.args.count c.args.next _ h.frame (λ q. r (n ∙ q)))) r)
 
--- the number of the name, where it was judged
-named : (c : goal.Then-number-ne0) → c.judge-number.result ≡ judge_of (name_of c.args.line.now)
-named c = c.judge-number.ensures ∙ ap judge_of ((heard-3 c).name c.if-read-ne0.false)
-
-pub returns-then-number-ne0 : goal.returns-then-number-ne0
-returns-then-number-ne0 c =
-    let a = c.args in
-    let y = c.read_name-read in
-    let f = (heard-3 c).frame c.if-read-ne0.false in
-    let n = named c in
-    let t = c.if-number-ne0.true in
-    heard_bad a.count a.next a.line.now y.new.name c.judge-number.result y.result.id y.result.len (n ∙ sym (judged_name a.count a.next a.line.now f (λ q. t (n ∙ q)))) t
-
--- `heard`, at another place
-heard-4 : (c : goal.Then-id-next) → LineRead c.read_name-read.result c.args.line.now c.read_name-read.new.name
-heard-4 c =
-    let y = c.read_name-read in
-    line_read y.result c.args.line.now c.args.name.now y.new.name c.requires y.ensures.result_value y.ensures.name_after
-
--- `named`, at another place
-named-2 : (c : goal.Then-id-next) → c.judge-number.result ≡ judge_of (name_of c.args.line.now)
-named-2 c = c.judge-number.ensures ∙ ap judge_of ((heard-4 c).name c.if-read-ne0.false)
-
-pub returns-then-id-next : goal.returns-then-id-next
-returns-then-id-next c =
-    let a = c.args in
-    let y = c.read_name-read in
-    let h = heard-4 c in
-    let z = c.if-read-ne0.false in
-    let g = sym (named-2 c) ∙ c.if-number-ne0.false in
-    let i = h.id z in
-    let t = c.if-id-next.true in
-    heard_bad a.count a.next a.line.now y.new.name 9 y.result.id y.result.len (sym (judged_id a.count a.next a.line.now (h.frame z) g (omega arith))) (λ q. omega arith)
-
--- `heard`, at another place
-heard-5 : (c : goal.Then-count-ge-MOST_NAMES) → LineRead c.read_name-read.result c.args.line.now c.read_name-read.new.name
-heard-5 c =
-    let y = c.read_name-read in
-    line_read y.result c.args.line.now c.args.name.now y.new.name c.requires y.ensures.result_value y.ensures.name_after
-
--- `named`, at another place
-named-3 : (c : goal.Then-count-ge-MOST_NAMES) → c.judge-number.result ≡ judge_of (name_of c.args.line.now)
-named-3 c = c.judge-number.ensures ∙ ap judge_of ((heard-5 c).name c.if-read-ne0.false)
+pub returns-then-from-next : goal.returns-then-from-next
+returns-then-from-next c =
+    let y = c.in_ok-read.ensures in
+    let h = line_read _ _ _ _ c.requires y.result_value y.name_after refl in
+    let g = sym (c.in_ok-judge.ensures ∙ ap judge_of h.name) in
+    heard_bad _ _ _ _ 9 _ _ (sym (judged_id c.args.count c.args.next _ h.frame g (omega (arith, h.id, c.from.ensures, c.if-from-next.true)))) (λ q. omega arith)
 
 pub returns-then-count-ge-MOST_NAMES : goal.returns-then-count-ge-MOST_NAMES
 returns-then-count-ge-MOST_NAMES c =
-    let a = c.args in
-    let y = c.read_name-read in
-    let h = heard-5 c in
-    let z = c.if-read-ne0.false in
-    let g = sym (named-3 c) ∙ c.if-number-ne0.false in
-    let i = h.id z in
-    let t = c.if-id-next.false in
-    heard_bad a.count a.next a.line.now y.new.name 10 y.result.id y.result.len (sym (judged_count a.count a.next a.line.now (h.frame z) g (omega arith) (omega arith))) (λ q. omega arith)
-
--- `heard`, at another place
-heard-6 : (c : goal.Else-count-ge-MOST_NAMES) → LineRead c.read_name-read.result c.args.line.now c.read_name-read.new.name
-heard-6 c =
-    let y = c.read_name-read in
-    line_read y.result c.args.line.now c.args.name.now y.new.name c.requires y.ensures.result_value y.ensures.name_after
-
--- `named`, at another place
-named-4 : (c : goal.Else-count-ge-MOST_NAMES) → c.judge-number.result ≡ judge_of (name_of c.args.line.now)
-named-4 c = c.judge-number.ensures ∙ ap judge_of ((heard-6 c).name c.if-read-ne0.false)
+    let y = c.in_ok-read.ensures in
+    let h = line_read _ _ _ _ c.requires y.result_value y.name_after refl in
+    let g = sym (c.in_ok-judge.ensures ∙ ap judge_of h.name) in
+    heard_bad _ _ _ _ 10 _ _ (sym (judged_count c.args.count c.args.next _ h.frame g (omega (arith, h.id, c.from.ensures, c.if-from-next.false)) c.if-count-ge-MOST_NAMES.true)) (λ q. omega arith)
 
 pub returns : goal.returns
 returns c =
-    let a = c.args in
-    let h = heard-6 c in
-    let z = c.if-read-ne0.false in
-    let g = sym (named-4 c) ∙ c.if-number-ne0.false in
-    let i = h.id z in
-    let t = c.if-id-next.false in
+    let y = c.in_ok-read.ensures in
+    let h = line_read _ _ _ _ c.requires y.result_value y.name_after refl in
+    let g = sym (c.in_ok-judge.ensures ∙ ap judge_of h.name) in
+    let i = h.id in
+    let f = c.from.ensures in
+    let t = c.if-from-next.false in
     record {
-      number = sym (judged_good a.count a.next a.line.now (h.frame z) g (omega arith) (omega arith));
+      number = sym (judged_good c.args.count c.args.next _ h.frame g (omega arith) c.if-count-ge-MOST_NAMES.false);
       id = λ q. i;
-      name = λ q. h.name z;
-      short = λ q. h.within z;
+      name = λ q. h.name;
+      short = λ q. h.within;
     }

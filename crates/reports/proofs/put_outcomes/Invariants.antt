@@ -1,7 +1,7 @@
 -- `put_outcomes` meets its contract: in front stand the lines so far.
 use mathlib.Core.Path.{◌≡◌}
 use mathlib.Core.List.{◌++◌}
-use Prim.Native.Nat.{◌-◌, ◌*◌, ◌≤◌}
+use Prim.Native.Nat.{◌*◌}
 use lib.ListN.{drop}
 use Rattle.laws.specs.Lists.{tabulate}
 use Rattle.lines.specs.Lines.{joined}
@@ -11,7 +11,4 @@ use Rattle.reports.specs.Tables.{outcome_at}
 use Rattle.reports.proofs.put_outcomes.Given as goal
 
 abbrev pub invariant-loop-k : goal.invariant-loop-k
-invariant-loop-k l = (l.k ≤ l.n) × (l.out ≡ joined (tabulate (outcome_at (as_outcomes l.cases l.values)) l.k) ++ drop (outcome_line_length * l.k) l.initial.out)
-
-abbrev pub decreases-loop-k : goal.decreases-loop-k
-decreases-loop-k l = l.n - l.k
+invariant-loop-k l = l.out ≡ joined (tabulate (outcome_at (as_outcomes l.cases l.values)) l.k) ++ drop (outcome_line_length * l.k) l.initial.out

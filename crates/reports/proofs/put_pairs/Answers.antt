@@ -14,89 +14,41 @@ use Rattle.reports.proofs.Text.{pair_even}
 use Rattle.reports.proofs.put_pairs.Goals as goal
 
 pub loop-k-init : goal.loop-k-init
-loop-k-init c =
-    let a = c.args in
-    let r = as_columns a.ids.now a.weeks.now a.sums.now a.counts.now in
-    (omega arith, texts_none (pair_at r) pair_line_length (pair_even r) a.out.now)
-
-pub bounds-ids-k : goal.bounds-ids-k
-bounds-ids-k c =
-    let t = c.loop-k-test.true in
-    let h = c.requires.1 in
-    omega arith
-
-pub bounds-weeks-k : goal.bounds-weeks-k
-bounds-weeks-k c =
-    let t = c.loop-k-test.true in
-    let h = c.requires.1 in
-    omega arith
-
-pub bounds-sums-k : goal.bounds-sums-k
-bounds-sums-k c =
-    let t = c.loop-k-test.true in
-    let h = c.requires.1 in
-    omega arith
-
-pub bounds-counts-k : goal.bounds-counts-k
-bounds-counts-k c =
-    let t = c.loop-k-test.true in
-    let h = c.requires.1 in
-    omega arith
+loop-k-init c = let a = c.args in texts_none (pair_at (as_columns a.ids.now a.weeks.now a.sums.now a.counts.now)) pair_line_length (pair_even (as_columns a.ids.now a.weeks.now a.sums.now a.counts.now)) a.out.now
 
 pub put_pair-requires : goal.put_pair-requires
 put_pair-requires c =
     let a = c.args in
     let l = c.loop-k in
-    let t = c.loop-k-test.true in
     let few = c.requires.0 in
     let n = c.requires.2 in
     let r = as_columns a.ids.now a.weeks.now a.sums.now a.counts.now in
-    let e = ap length l.invariant.1 ∙ length_kept (pair_at r) pair_line_length (pair_even r) a.out.now l.k (omega arith) in
+    let e = ap length l.invariant ∙ length_kept (pair_at r) pair_line_length (pair_even r) a.out.now l.k (omega arith) in
     (omega arith, omega arith)
-
-pub overflow_add-k : goal.overflow_add-k
-overflow_add-k c =
-    let t = c.loop-k-test.true in
-    let few = c.requires.0 in
-    omega arith
-
-pub loop-k-smaller : goal.loop-k-smaller
-loop-k-smaller c =
-    let t = c.loop-k-test.true in
-    omega arith
 
 pub loop-k-preserved : goal.loop-k-preserved
 loop-k-preserved c =
     let a = c.args in
     let l = c.loop-k in
-    let t = c.loop-k-test.true in
-    let n = c.requires.2 in
-    let k = l.k in
     let r = as_columns a.ids.now a.weeks.now a.sums.now a.counts.now in
-    let line = pair_at r c.loop-k.k in (
-      omega arith,
-      c.put_pair.ensures
-          ∙ ap (λ (s : List ℕ). take (pair_line_length * c.loop-k.k) s ++ (line ++ drop (pair_line_length * c.loop-k.k + pair_line_length) s)) l.invariant.1
-          ∙ texts_more (pair_at r) pair_line_length (pair_even r) a.out.now c.loop-k.k,
-    )
+    let line = pair_at r l.k in
+    c.put_pair.ensures
+    ∙ ap (λ (s : List ℕ). take (pair_line_length * l.k) s ++ (line ++ drop (pair_line_length * l.k + pair_line_length) s)) l.invariant
+    ∙ texts_more (pair_at r) pair_line_length (pair_even r) a.out.now l.k
 
 pub shape_of-out : goal.shape_of-out
 shape_of-out c =
     let a = c.args in
     let l = c.loop-k in
     let n = c.requires.2 in
-    let i = l.invariant.0 in
     let r = as_columns a.ids.now a.weeks.now a.sums.now a.counts.now in
-    ap length l.invariant.1 ∙ length_kept (pair_at r) pair_line_length (pair_even r) a.out.now l.k (omega arith)
+    ap length l.invariant ∙ length_kept (pair_at r) pair_line_length (pair_even r) a.out.now l.k (omega arith)
 
 pub returns : goal.returns
 returns c =
     let a = c.args in
-    let l = c.loop-k in
-    let left = c.loop-k-test.false in
-    let i = l.invariant.0 in
-    let k : l.k ≡ a.n = omega arith in
     let r = as_columns a.ids.now a.weeks.now a.sums.now a.counts.now in
-    l.invariant.1
+    let k : c.loop-k.k ≡ a.n = omega arith in
+    c.loop-k.invariant
     ∙ ap (λ (m : ℕ). joined (tabulate (pair_at r) m) ++ drop (pair_line_length * m) a.out.now) k
     ∙ texts_all (pair_at r) pair_line_length (pair_even r) a.out.now a.n c.requires.2

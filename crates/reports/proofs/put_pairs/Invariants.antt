@@ -1,7 +1,7 @@
 -- `put_pairs` meets its contract: in front stand the lines so far.
 use mathlib.Core.Path.{◌≡◌}
 use mathlib.Core.List.{◌++◌}
-use Prim.Native.Nat.{◌-◌, ◌*◌, ◌≤◌}
+use Prim.Native.Nat.{◌*◌}
 use lib.ListN.{drop}
 use Rattle.laws.specs.Lists.{tabulate}
 use Rattle.lines.specs.Lines.{joined}
@@ -11,7 +11,4 @@ use Rattle.reports.specs.Tables.{pair_at}
 use Rattle.reports.proofs.put_pairs.Given as goal
 
 abbrev pub invariant-loop-k : goal.invariant-loop-k
-invariant-loop-k l = (l.k ≤ l.n) × (l.out ≡ joined (tabulate (pair_at (as_columns l.ids l.weeks l.sums l.counts)) l.k) ++ drop (pair_line_length * l.k) l.initial.out)
-
-abbrev pub decreases-loop-k : goal.decreases-loop-k
-decreases-loop-k l = l.n - l.k
+invariant-loop-k l = l.out ≡ joined (tabulate (pair_at (as_columns l.ids l.weeks l.sums l.counts)) l.k) ++ drop (pair_line_length * l.k) l.initial.out

@@ -1,15 +1,16 @@
 -- `put_tables` meets its contract: outcomes, pairs and end stand one after the other, or nothing is written.
 use mathlib.Core.Path.{sym}
+use mathlib.Core.List.{[], ◌∷◌}
 use Prim.Native.Nat.{◌+◌, ◌*◌, ◌≤◌}
 use native.Mathlib.Omega.{arith}
 use lib.ListN.{length}
 use lib.Seq.{length-take-le}
 use Rattle.fields.proofs.Fitted.{fitting_none, fitted_none, fitting_all}
-use Rattle.log_frames.specs.Frames.{outcome_line_length, pair_line_length, import_end_line_length}
+use Rattle.log_frames.specs.Frames.{import_end_frame, outcome_line_length, pair_line_length, import_end_line_length}
 use Rattle.weeks.specs.Pairs.{as_columns}
 use Rattle.importer.specs.Import.{as_outcomes}
 use Rattle.reports.specs.Tables.{tables_text}
-use Rattle.reports.proofs.Text.{length_tables, tables_put}
+use Rattle.reports.proofs.Text.{length_end, length_tables, tables_put, end_room, line_written}
 use Rattle.reports.proofs.put_tables.Goals as goal
 
 pub returns-then-out-total : goal.returns-then-out-total
@@ -42,3 +43,14 @@ returns c =
       fitting_all (tables_text a.n a.m o d) (length a.out.now) (outcome_line_length * a.n + pair_line_length * a.m + import_end_line_length) (length_tables a.n a.m o d) h,
       tables_put a.n a.m o d a.out.now h _ _ _ c.put_outcomes.ensures c.put_pairs.ensures c.write_import_end.ensures.out_after,
     )
+
+pub unwrap-requires : goal.unwrap-requires
+unwrap-requires c =
+    let a = c.args in
+    let t = c.write_import_end in
+    let h = c.if-out-total.false in
+    let o = as_outcomes a.cases.now a.values.now in
+    let d = as_columns a.ids.now a.weeks.now a.sums.now a.counts.now in
+    let p = end_room a.n a.m o d a.out.now h _ _ c.put_outcomes.ensures c.put_pairs.ensures in
+    let l = length_end a.n a.m in
+    line_written import_end_frame (a.n ∷ a.m ∷ []) _ t.result t.ensures.value (omega arith)

@@ -8,4 +8,6 @@ pub returns : goal.returns
 returns c =
     let a = c.args in
     let w = c.write_import_refusal.ensures in
-    (w.value ∙ refusal_written a.part a.number a.line (length a.out.now), w.out_after ∙ refusal_out_lem a.part a.number a.line a.out.now)
+    let e = c.number-number.ensures in
+    let p = c.number.ensures in
+    rw (← e, ← p) (w.value ∙ refusal_written _ _ a.refused.line (length a.out.now), w.out_after ∙ refusal_out_lem _ _ a.refused.line a.out.now)

@@ -7,6 +7,7 @@ use Rattle.fields.specs.Fitted.{fitting_of, fitted_of}
 use native.Mathlib.Omega.{arith}
 use lib.Seq.{length-take-le}
 use Rattle.lines.proofs.Lines.{line_within}
+use Rattle.refusals.proofs.Refusals.{refused}
 use Rattle.reports.proofs.Parts.{report_much, register_bad, register_good}
 use Rattle.reports.proofs.report.Goals as goal
 
@@ -24,13 +25,12 @@ pub slice_bounds-build-end : goal.slice_bounds-build-end
 slice_bounds-build-end c =
     sym (length-take-le c.register_end-at.result c.args.input.now c.register_end-at.ensures.1)
 
-pub returns-then-number-ne0 : goal.returns-then-number-ne0
-returns-then-number-ne0 c =
+pub returns-in-Err : goal.returns-in-Err
+returns-in-Err c =
     let a = c.args in
     let e = c.register_end-at in
-    let b = c.build-built in
-    let w = c.refuse-then-number-ne0.ensures in
-    let t = register_bad a.input.now c.if-input-gt-MOST_INPUT.false e.result e.ensures.0 b.result b.ensures.0 c.if-number-ne0.true in
+    let w = c.refuse-in-Err.ensures in
+    let t = register_bad a.input.now c.if-input-gt-MOST_INPUT.false e.result e.ensures.0 _ c.in-Err.ensures.0 (refused c.in-Err.refused.refusal) in
     record {
       value = w.0 ∙ ap (λ (l : List ℕ). fitting_of l (length a.out.now)) t;
       out_after = w.1 ∙ ap (λ (l : List ℕ). fitted_of l a.out.now) t;
@@ -67,9 +67,9 @@ pub returns : goal.returns
 returns c =
     let a = c.args in
     let e = c.register_end-at in
-    let b = c.build-built in
+    let b = c.in_default.ensures in
     let w = c.report_settled.ensures in
-    let t = register_good a.input.now c.if-input-gt-MOST_INPUT.false e.result e.ensures.0 b.result b.ensures.0 c.if-number-ne0.false _ b.ensures.1 _ c.line_end-end.ensures _ _ refl refl in
+    let t = register_good a.input.now c.if-input-gt-MOST_INPUT.false e.result e.ensures.0 _ b.0 refl _ b.1 _ c.line_end-end.ensures _ _ refl refl in
     record {
       value = w.0 ∙ ap (λ (l : List ℕ). fitting_of l (length a.out.now)) t;
       out_after = w.1 ∙ ap (λ (l : List ℕ). fitted_of l a.out.now) t;

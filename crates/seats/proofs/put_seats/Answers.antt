@@ -1,14 +1,15 @@
 -- `put_seats` meets its contract: after j turns, the new rows and the seats of the first j features are put.
-use mathlib.Core.Path.{◌≡◌, refl, sym, ap, ◌∙◌}
+use mathlib.Core.Path.{◌≡◌, sym, ap, ◌∙◌}
 use mathlib.Core.List.{List, [], ◌∷◌, ◌++◌, map}
 use Prim.Native.Nat.{ℕ, ◌+◌, ◌<◌}
 use native.Mathlib.Numerals.{add-one}
 use native.Mathlib.Omega.{arith}
-use lib.ListN.{length, get_or, take, set, length-set, length-map}
+use lib.ListN.{length, get_or, take, set, length-map}
 use lib.Seq.{take-suc, take_all, length-take-le}
 use Rattle.laws.proofs.Images.{get_d_map_lt}
 use Rattle.laws.proofs.Tables.{table_over, over_nil, over_step}
 use Rattle.words.specs.Words.{name_start, name_count}
+use Rattle.lists.specs.Sizes.{rows_under}
 use Rattle.index.proofs.Laws.{good_postings_most}
 use Rattle.lists.proofs.Sized.{under_next}
 use Rattle.index_writer.specs.Contents.{all_rows_in}
@@ -35,33 +36,33 @@ rows_under-from-requires c = (c.requires.0, omega arith)
 pub rows_under-to-requires : goal.rows_under-to-requires
 rows_under-to-requires c =
     let e = c.rows_under-from.ensures in
-    let n = under_next c.args.words.now (length c.args.features.now) in
+    let n = under_next c.args.words.now c.from-wide.result in
     (c.requires.0, omega arith)
 
 pub loop-j-init : goal.loop-j-init
 loop-j-init c =
-    let a = c.args in
-    let w = a.words.now in (
-      omega arith,
-      refl,
-      refl,
-      refl,
-      put_none (all_rows_in c.args.words.now) (name_start (name_count c.args.words.now)) (length a.features.now) a.at.now a.values.now a.n,
-      over_nil (seatAt c.args.words.now a.id a.features.now) a.postings.now,
+    let a = c.args in (
+      put_none (all_rows_in a.words.now) (name_start (name_count a.words.now)) (length a.features.now) a.at.now a.values.now a.n,
+      over_nil (seatAt a.words.now a.id a.features.now) a.postings.now,
     )
 
 pub seat-seated-requires : goal.seat-seated-requires
 seat-seated-requires c =
     let fs = c.args.features.now in
     let j = c.loop-j.j in
-    let n = c.loop-j.invariant.4.count in
+    let n = c.loop-j.invariant.0.count in
     let m = cuts_most (length fs) (all_rows_in c.args.words.now) (take j fs) in
-    let k = length-take-le j fs c.loop-j.invariant.0 in
-    let u = c.loop-j.invariant.1 in
-    let v = c.loop-j.invariant.2 in
+    let k = length-take-le j fs (omega arith) in
+    let u = c.loop-j.auto.at in
+    let v = c.loop-j.auto.values in
     let p = c.requires.3 in
-    let q = c.requires.4 in
-    (c.requires.0, c.rows_under-from.ensures, c.rows_under-to.ensures, omega arith, omega arith)
+    let q = c.requires.4 in (
+      c.requires.0,
+      c.rows_under-from.ensures ∙ ap (rows_under c.args.words.now) c.from-wide.ensures,
+      c.rows_under-to.ensures ∙ ap (λ (y : ℕ). rows_under c.args.words.now (y + 1)) c.from-wide.ensures,
+      omega arith,
+      omega arith,
+    )
 
 pub overflow_cast-postings : goal.overflow_cast-postings
 overflow_cast-postings c =
@@ -75,48 +76,28 @@ pub loop-j-preserved : goal.loop-j-preserved
 loop-j-preserved c =
     let a = c.args in
     let fs = a.features.now in
-    let w = a.words.now in
     let j = c.loop-j.j in
     let i = c.loop-j.invariant in
     let e = c.seat-seated.ensures in
-    let t = c.loop-j-test.true in
     let h = c.requires.2 in
-    let one : take (j + 1) c.args.features.now ≡ take j c.args.features.now ++ (get_or c.args.features.now j 0 ∷ []) = ap (λ (k : ℕ). take k c.args.features.now) (add-one j) ∙ take-suc c.args.features.now j 0 t in
-    let more = put_more (all_rows_in c.args.words.now) (name_start (name_count c.args.words.now)) (length c.args.features.now) a.at.now a.values.now a.n (take j c.args.features.now) c.loop-j.at c.loop-j.values c.loop-j.m (get_or c.args.features.now j 0 ∷ []) _ _ c.seat-seated.result.count i.4 (record { count = e.1; places = e.2; words = e.3 }) in (
-      omega arith,
-      c.at-1.given ∙ i.1,
-      c.values-1.given ∙ i.2,
-      simp length-set i.3,
-      rw one more,
-      over_more (seatAt c.args.words.now a.id c.args.features.now) j a.postings.now _ _ (omega arith) i.5 e.0,
-    )
-
-pub shape_of-at : goal.shape_of-at
-shape_of-at c = c.loop-j.invariant.1
-
-pub shape_of-values : goal.shape_of-values
-shape_of-values c = c.loop-j.invariant.2
-
-pub shape_of-postings : goal.shape_of-postings
-shape_of-postings c = c.loop-j.invariant.3
+    let one : take (j + 1) c.args.features.now ≡ take j c.args.features.now ++ (get_or c.args.features.now j 0 ∷ []) = ap (λ (k : ℕ). take k c.args.features.now) (add-one j) ∙ take-suc c.args.features.now j 0 (omega arith) in
+    let more = put_more (all_rows_in c.args.words.now) (name_start (name_count c.args.words.now)) (length c.args.features.now) a.at.now a.values.now a.n (take j c.args.features.now) c.loop-j.at c.loop-j.values c.loop-j.m (get_or c.args.features.now j 0 ∷ []) _ _ c.seat-seated.result.count i.0 (record { count = e.1; places = e.2; words = e.3 }) in
+    (rw one more, over_more (seatAt c.args.words.now a.id c.args.features.now) j a.postings.now _ _ (omega arith) i.1 e.0)
 
 pub returns : goal.returns
 unfolding posting_cuts
 returns c =
     let a = c.args in
     let fs = a.features.now in
-    let w = a.words.now in
     let i = c.loop-j.invariant in
     let h = c.requires.2 in
-    let m = i.0 in
-    let t = c.loop-j-test.false in
     let e : c.loop-j.j ≡ length a.postings.now = omega arith in
     let all : take c.loop-j.j c.args.features.now ≡ c.args.features.now = take_all c.loop-j.j c.args.features.now (omega arith) in
-    let p = rw all at i.4 in (
+    let p = rw all at i.0 in (
       p.count,
       p.places,
       p.words,
-      i.5
+      i.1
           ∙ ap (λ (k : ℕ). table_over (seatAt c.args.words.now a.id c.args.features.now) k a.postings.now) e
           ∙ seats-all (posting_seat (length c.args.features.now) a.id (all_rows_in c.args.words.now)) c.args.features.now a.postings.now (sym h),
     )

@@ -1,7 +1,7 @@
 -- `put_seats` meets its contract: after j turns, the new rows and the seats of the first j features are put.
 use mathlib.Core.Path.{◌≡◌}
 use mathlib.Core.List.{List}
-use Prim.Native.Nat.{ℕ, ◌-◌, ◌≤◌}
+use Prim.Native.Nat.{ℕ}
 use lib.ListN.{length, get_or, take}
 use Rattle.laws.proofs.Tables.{table_over}
 use Rattle.words.specs.Words.{name_start, name_count}
@@ -16,12 +16,5 @@ seatAt words id features i = posting_seat (length features) id (all_rows_in word
 
 abbrev pub invariant-loop-j : goal.invariant-loop-j
 invariant-loop-j l =
-    (l.j ≤ length l.features)
-    × (length l.at ≡ length l.initial.at)
-    × (length l.values ≡ length l.initial.values)
-    × (length l.postings ≡ length l.initial.postings)
-    × Put (all_rows_in l.words) (name_start (name_count l.words)) (length l.features) l.initial.at l.initial.values l.n (take l.j l.features) l.at l.values l.m
+    Put (all_rows_in l.words) (name_start (name_count l.words)) (length l.features) l.initial.at l.initial.values l.n (take l.j l.features) l.at l.values l.m
     × (l.postings ≡ table_over (seatAt l.words l.id l.features) l.j l.initial.postings)
-
-abbrev pub decreases-loop-j : goal.decreases-loop-j
-decreases-loop-j l = length l.features - l.j

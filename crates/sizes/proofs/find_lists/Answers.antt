@@ -1,20 +1,17 @@
 -- `find_lists` meets its contract: the size's rows are cut out once; after j turns, the starts and the keys of the first j features stand in front, and
 -- those that are empty are as many as they may be, or fewer. With one more than that, the others are too few, whatever comes.
-use mathlib.Core.Path.{◌≡◌, refl, sym, ap, ap₂, ◌∙◌}
-use mathlib.Core.Bool.{Bool, true, false, cond, true≢false}
-use mathlib.Core.List.{List}
-use Prim.Native.Nat.{ℕ, zero, suc, ◌+◌, ◌*◌, ◌≤◌, ◌<◌, ◌-◌}
+use Rattle.std.proofs.Common.{◌≡◌, ◌∙◌, refl, sym, ap, ap₂, Bool, true, false, cond, List, ℕ, zero, suc, ◌+◌, ◌*◌, ◌≤◌, ◌<◌, ◌-◌, length, get_or, set, eqb, ltb, arith}
 use native.Mathlib.Nat.{add-zero}
-use native.Mathlib.Omega.{arith}
 use borrow.Author.Tests.{lt-ltb, le-ltb, ltb-true, ltb-false, le-leb, lt-leb}
-use lib.Dec.{ltb}
-use lib.ListN.{length, get_or, set, length-set}
+use mir.Val.{bool_byte}
 use Rattle.laws.specs.Below.{sum_below}
 use Rattle.laws.proofs.Tables.{table_over, over_nil, over_step}
 use Rattle.laws.proofs.Below.{count_below_most, sum_below_step}
 use Rattle.laws.proofs.Tests.{cond_most}
-use Rattle.lists.specs.Lists.{list_in}
+use Rattle.words.specs.Words.{name_count, name_size}
+use Rattle.lists.specs.Lists.{span_in, list_in}
 use Rattle.lists.proofs.Spans.{span_count}
+use Rattle.index.specs.Good.{Good}
 use Rattle.index.proofs.Laws.{good_three, good_names_most}
 use Rattle.sizes.specs.Tables.{start_of, small_key, filled_of}
 use Rattle.sizes.proofs.Work.{list_length}
@@ -56,167 +53,111 @@ module _ (w : List ℕ) (y : ℕ) (f : List ℕ) where
       let q = ap (filled_of w y f) k in
       omega arith
 
-pub rows_between-rows-requires : goal.rows_between-rows-requires
-rows_between-rows-requires c = (c.requires.0, c.requires.5, c.requires.6)
-
 pub postings_start-first-requires : goal.postings_start-first-requires
 postings_start-first-requires c = good_three _ c.requires.0
 
-pub overflow_sub-spared : goal.overflow_sub-spared
-overflow_sub-spared c = c.requires.2
-
 pub loop-j-init : goal.loop-j-init
 loop-j-init c =
-    (omega arith, refl, refl, over_nil (start_of c.args.words.now c.args.size c.args.features.now) c.args.starts.now, over_nil (small_key c.args.words.now c.args.size c.args.features.now) c.args.keys.now, unfold filled_of sum_below in refl, omega arith)
-
-pub place_among-place-requires : goal.place_among-place-requires
-place_among-place-requires c =
-    (c.requires.0, c.rows_between-rows.ensures.words, c.postings_start-first.ensures.0)
-
--- the list's length
-counts : (c : goal.After-place_among-place) → (c.place_among-place.result.count ≡ length (list_in c.args.words.now c.args.size (get_or c.args.features.now c.loop-j.j 0))) × (c.place_among-place.result.count ≤ 256)
-counts c =
-    let f = get_or c.args.features.now c.loop-j.j 0 in
-    let e = c.place_among-place.ensures.1 ∙ span_count c.args.words.now c.requires.0 c.args.size f in
-    let l = list_length c.args.words.now c.requires.0 c.args.size f in
-    let m = count_below_most (Rattle.words.specs.Words.name_count c.args.words.now) (λ (i : ℕ). lib.Dec.eqb (Rattle.words.specs.Words.name_size c.args.words.now i) c.args.size) in
-    let n = good_names_most c.args.words.now c.requires.0 in
-    (e, omega arith)
-
-pub overflow_mul-key : goal.overflow_mul-key
-overflow_mul-key c = let n = (counts c).1 in omega arith
-
-pub overflow_add-key : goal.overflow_add-key
-overflow_add-key c = let n = (counts c).1 in omega arith
-
--- `counts`, at another place
-counts-2 : (c : goal.After-one_if-empty) → (c.place_among-place.result.count ≡ length (list_in c.args.words.now c.args.size (get_or c.args.features.now c.loop-j.j 0))) × (c.place_among-place.result.count ≤ 256)
-counts-2 c =
-    let f = get_or c.args.features.now c.loop-j.j 0 in
-    let e = c.place_among-place.ensures.1 ∙ span_count c.args.words.now c.requires.0 c.args.size f in
-    let l = list_length c.args.words.now c.requires.0 c.args.size f in
-    let m = count_below_most (Rattle.words.specs.Words.name_count c.args.words.now) (λ (i : ℕ). lib.Dec.eqb (Rattle.words.specs.Words.name_size c.args.words.now i) c.args.size) in
-    let n = good_names_most c.args.words.now c.requires.0 in
-    (e, omega arith)
-
--- an empty list counts for one
-one : (c : goal.After-one_if-empty) → (c.one_if-empty.result ≡ cond (ltb (small_key c.args.words.now c.args.size c.args.features.now c.loop-j.j) 256) 1 0) × (c.one_if-empty.result ≤ 1)
-one c =
-    let j = c.loop-j.j in
-    let k : c.place_among-place.result.count * 256 + j ≡ small_key c.args.words.now c.args.size c.args.features.now j = unfold small_key in (ap (λ (n : ℕ). n * 256 + j) (counts-2 c).0) in
-    let e : c.one_if-empty.result ≡ cond (ltb (small_key c.args.words.now c.args.size c.args.features.now j) 256) 1 0 = c.one_if-empty.ensures ∙ ap (λ (v : ℕ). cond (ltb v 256) 1 0) k in
-    (e, rw e (cond_most (ltb (small_key c.args.words.now c.args.size c.args.features.now j) 256) 1))
-
-pub overflow_add-empty : goal.overflow_add-empty
-overflow_add-empty c = let l = c.loop-j.invariant.5 in let o = (one c).1 in omega arith
-
-pub shape_of-starts-then-spared-empty : goal.shape_of-starts-then-spared-empty
-shape_of-starts-then-spared-empty c = simp length-set c.loop-j.invariant.1
-
-pub shape_of-keys-then-spared-empty : goal.shape_of-keys-then-spared-empty
-shape_of-keys-then-spared-empty c = simp length-set c.loop-j.invariant.2
-
--- `counts`, at another place
-counts-3 : (c : goal.Then-spared-empty) → (c.place_among-place.result.count ≡ length (list_in c.args.words.now c.args.size (get_or c.args.features.now c.loop-j.j 0))) × (c.place_among-place.result.count ≤ 256)
-counts-3 c =
-    let f = get_or c.args.features.now c.loop-j.j 0 in
-    let e = c.place_among-place.ensures.1 ∙ span_count c.args.words.now c.requires.0 c.args.size f in
-    let l = list_length c.args.words.now c.requires.0 c.args.size f in
-    let m = count_below_most (Rattle.words.specs.Words.name_count c.args.words.now) (λ (i : ℕ). lib.Dec.eqb (Rattle.words.specs.Words.name_size c.args.words.now i) c.args.size) in
-    let n = good_names_most c.args.words.now c.requires.0 in
-    (e, omega arith)
-
--- `one`, at another place
-one-2 : (c : goal.Then-spared-empty) → (c.one_if-empty.result ≡ cond (ltb (small_key c.args.words.now c.args.size c.args.features.now c.loop-j.j) 256) 1 0) × (c.one_if-empty.result ≤ 1)
-one-2 c =
-    let j = c.loop-j.j in
-    let k : c.place_among-place.result.count * 256 + j ≡ small_key c.args.words.now c.args.size c.args.features.now j = unfold small_key in (ap (λ (n : ℕ). n * 256 + j) (counts-3 c).0) in
-    let e : c.one_if-empty.result ≡ cond (ltb (small_key c.args.words.now c.args.size c.args.features.now j) 256) 1 0 = c.one_if-empty.ensures ∙ ap (λ (v : ℕ). cond (ltb v 256) 1 0) k in
-    (e, rw e (cond_most (ltb (small_key c.args.words.now c.args.size c.args.features.now j) 256) 1))
-
--- those that are empty with it
-empties : (c : goal.Then-spared-empty) → c.loop-j.empty + c.one_if-empty.result + filled_of c.args.words.now c.args.size c.args.features.now (c.loop-j.j + 1) ≡ c.loop-j.j + 1
-empties c =
-    let l = c.loop-j in
-    let h = one_more c.args.words.now c.args.size c.args.features.now l.j l.empty l.invariant.5 in
-    let o = (one-2 c).0 in
-    omega arith
-
-pub returns-then-spared-empty : goal.returns-then-spared-empty
-returns-then-spared-empty c =
-    let l = c.loop-j in
-    let x = length c.args.features.now in
-    let few = too_few c.args.words.now c.args.size c.args.features.now (l.j + 1) (l.empty + c.one_if-empty.result) x c.args.least (omega arith) c.requires.2 (empties c) c.if-spared-empty.true in
     record {
-      value = sym (lt-leb c.args.least (filled_of c.args.words.now c.args.size c.args.features.now x) few);
-      starts_after = λ q. absurd (true≢false (sym q));
+      starts = over_nil (start_of c.args.words.now c.args.size c.args.features.now) c.args.starts.now;
+      keys = over_nil (small_key c.args.words.now c.args.size c.args.features.now) c.args.keys.now;
+      counted = unfold filled_of sum_below in refl;
+      few = omega arith;
     }
 
--- `counts`, at another place
-counts-4 : (c : goal.Else-spared-empty) → (c.place_among-place.result.count ≡ length (list_in c.args.words.now c.args.size (get_or c.args.features.now c.loop-j.j 0))) × (c.place_among-place.result.count ≤ 256)
-counts-4 c =
-    let f = get_or c.args.features.now c.loop-j.j 0 in
-    let e = c.place_among-place.ensures.1 ∙ span_count c.args.words.now c.requires.0 c.args.size f in
-    let l = list_length c.args.words.now c.requires.0 c.args.size f in
-    let m = count_below_most (Rattle.words.specs.Words.name_count c.args.words.now) (λ (i : ℕ). lib.Dec.eqb (Rattle.words.specs.Words.name_size c.args.words.now i) c.args.size) in
-    let n = good_names_most c.args.words.now c.requires.0 in
-    (e, omega arith)
+-- a list's length, by its rows
+counted : (w : List ℕ) → Good w → (y f count : ℕ) → count ≡ (span_in w y f).count → count ≡ length (list_in w y f)
+counted w good y f count e = e ∙ span_count w good y f
 
--- `one`, at another place
-one-3 : (c : goal.Else-spared-empty) → (c.one_if-empty.result ≡ cond (ltb (small_key c.args.words.now c.args.size c.args.features.now c.loop-j.j) 256) 1 0) × (c.one_if-empty.result ≤ 1)
-one-3 c =
-    let j = c.loop-j.j in
-    let k : c.place_among-place.result.count * 256 + j ≡ small_key c.args.words.now c.args.size c.args.features.now j = unfold small_key in (ap (λ (n : ℕ). n * 256 + j) (counts-4 c).0) in
-    let e : c.one_if-empty.result ≡ cond (ltb (small_key c.args.words.now c.args.size c.args.features.now j) 256) 1 0 = c.one_if-empty.ensures ∙ ap (λ (v : ℕ). cond (ltb v 256) 1 0) k in
-    (e, rw e (cond_most (ltb (small_key c.args.words.now c.args.size c.args.features.now j) 256) 1))
-
--- `empties`, at another place
-empties-2 : (c : goal.Else-spared-empty) → c.loop-j.empty + c.one_if-empty.result + filled_of c.args.words.now c.args.size c.args.features.now (c.loop-j.j + 1) ≡ c.loop-j.j + 1
-empties-2 c =
-    let l = c.loop-j in
-    let h = one_more c.args.words.now c.args.size c.args.features.now l.j l.empty l.invariant.5 in
-    let o = (one-3 c).0 in
+short : (w : List ℕ) → Good w → (y f count : ℕ) → count ≡ (span_in w y f).count → count ≤ 256
+short w good y f count e =
+    let c = counted w good y f count e in
+    let l = list_length w good y f in
+    let m = count_below_most (name_count w) (λ (i : ℕ). eqb (name_size w i) y) in
+    let n = good_names_most w good in
     omega arith
+
+-- a test counts for one or none
+byte : (b : Bool) → bool_byte b ≡ cond b 1 0
+byte true = refl
+byte false = refl
+
+one_most : (b : Bool) (more : ℕ) → more ≡ bool_byte b → more ≤ 1
+one_most b more h = rw (h ∙ byte b) (cond_most b 1)
+
+-- what is found of the j-th feature: its list's start and length, which make its key
+module _ (w : List ℕ) (good : Good w) (y : ℕ) (f : List ℕ) (j start count : ℕ)
+    (e : (start ≡ (span_in w y (get_or f j 0)).start) × (count ≡ (span_in w y (get_or f j 0)).count)) where
+  begun : start ≡ start_of w y f j
+  begun = unfold start_of in e.0
+
+  keyed : count * 256 + j ≡ small_key w y f j
+  keyed = unfold small_key in (ap (λ (n : ℕ). n * 256 + j) (counted w good y (get_or f j 0) count e.1))
+
+  -- those that are empty with it
+  empties : (empty more : ℕ) → empty + filled_of w y f j ≡ j → more ≡ bool_byte (ltb (count * 256 + j) 256) → empty + more + filled_of w y f (j + 1) ≡ j + 1
+  empties empty more h m =
+      let o = one_more w y f j empty h in
+      let u = m ∙ byte (ltb (count * 256 + j) 256) ∙ ap (λ (v : ℕ). cond (ltb v 256) 1 0) keyed in
+      omega arith
+
+pub overflow_mul-key : goal.overflow_mul-key
+overflow_mul-key c =
+    let n = short c.args.words.now c.requires.0 c.args.size _ _ c.place_among-place.ensures.1 in
+    omega arith
+
+pub overflow_add-key : goal.overflow_add-key
+overflow_add-key c =
+    let n = short c.args.words.now c.requires.0 c.args.size _ _ c.place_among-place.ensures.1 in
+    omega arith
+
+pub overflow_add-empty : goal.overflow_add-empty
+overflow_add-empty c =
+    let l = c.loop-j.invariant.counted in
+    let o = one_most _ _ c.from-empty.ensures in
+    omega arith
+
+pub returns-then-spared-empty-clause-value : goal.returns-then-spared-empty-clause-value
+returns-then-spared-empty-clause-value c =
+    let a = c.args in
+    let l = c.loop-j in
+    let x = length a.features.now in
+    let e = empties a.words.now c.requires.0 a.size a.features.now l.j _ _ c.place_among-place.ensures l.empty _ l.invariant.counted c.from-empty.ensures in
+    let few = too_few a.words.now a.size a.features.now (l.j + 1) (l.empty + c.from-empty.result) x a.least (omega arith) c.requires.2 e c.if-spared-empty.true in
+    sym (lt-leb a.least (filled_of a.words.now a.size a.features.now x) few)
 
 pub loop-j-preserved : goal.loop-j-preserved
 loop-j-preserved c =
+    let a = c.args in
     let l = c.loop-j in
-    let j = l.j in
-    let st = start_of c.args.words.now c.args.size c.args.features.now in
-    let ke = small_key c.args.words.now c.args.size c.args.features.now in
-    let s : c.place_among-place.result.start ≡ st c.loop-j.j = unfold start_of in c.place_among-place.ensures.0 in
-    let k : c.place_among-place.result.count * 256 + c.loop-j.j ≡ ke c.loop-j.j = unfold small_key in (ap (λ (n : ℕ). n * 256 + c.loop-j.j) (counts-4 c).0) in (
-      omega arith,
-      simp length-set l.invariant.1,
-      simp length-set l.invariant.2,
-      ap₂ (λ (t : List ℕ) (v : ℕ). set t c.loop-j.j v) l.invariant.3 s ∙ over_step st c.loop-j.j c.args.starts.now (omega arith),
-      ap₂ (λ (t : List ℕ) (v : ℕ). set t c.loop-j.j v) l.invariant.4 k ∙ over_step ke c.loop-j.j c.args.keys.now (omega arith),
-      empties-2 c,
-      c.if-spared-empty.false,
-    )
+    let st = start_of a.words.now a.size a.features.now in
+    let ke = small_key a.words.now a.size a.features.now in
+    let s = begun a.words.now c.requires.0 a.size a.features.now l.j _ _ c.place_among-place.ensures in
+    let k = keyed a.words.now c.requires.0 a.size a.features.now l.j _ _ c.place_among-place.ensures in
+    record {
+      starts = ap₂ (λ (t : List ℕ) (v : ℕ). set t l.j v) l.invariant.starts s ∙ over_step st l.j a.starts.now (omega arith);
+      keys = ap₂ (λ (t : List ℕ) (v : ℕ). set t l.j v) l.invariant.keys k ∙ over_step ke l.j a.keys.now (omega arith);
+      counted = empties a.words.now c.requires.0 a.size a.features.now l.j _ _ c.place_among-place.ensures l.empty _ l.invariant.counted c.from-empty.ensures;
+      few = c.if-spared-empty.false;
+    }
 
-pub shape_of-starts : goal.shape_of-starts
-shape_of-starts c = c.loop-j.invariant.1
-
-pub shape_of-keys : goal.shape_of-keys
-shape_of-keys c = c.loop-j.invariant.2
-
-pub returns : goal.returns
-returns c =
+pub returns-clause-value : goal.returns-clause-value
+returns-clause-value c =
     let l = c.loop-j in
     let e : l.j ≡ length c.args.features.now = omega arith in
     let full = filled_of c.args.words.now c.args.size c.args.features.now in
     let n = ap full e in
-    let h = l.invariant.5 in
-    let i = l.invariant.6 in
+    let h = l.invariant.counted in
+    let i = l.invariant.few in
     let p = c.requires.2 in
     let enough : c.args.least ≤ full (length c.args.features.now) = omega arith in
-    record {
-      value =
-          sym (le-leb c.args.least (full (length c.args.features.now)) enough);
-      starts_after =
-          λ q. (
-            l.invariant.3 ∙ ap (λ (n : ℕ). table_over (start_of c.args.words.now c.args.size c.args.features.now) n c.args.starts.now) e,
-            l.invariant.4 ∙ ap (λ (n : ℕ). table_over (small_key c.args.words.now c.args.size c.args.features.now) n c.args.keys.now) e,
-          );
-    }
+    sym (le-leb c.args.least (full (length c.args.features.now)) enough)
+
+pub returns-clause-starts_after : goal.returns-clause-starts_after
+returns-clause-starts_after c =
+    let l = c.loop-j in
+    let e : l.j ≡ length c.args.features.now = omega arith in
+    λ q. (
+      l.invariant.starts ∙ ap (λ (n : ℕ). table_over (start_of c.args.words.now c.args.size c.args.features.now) n c.args.starts.now) e,
+      l.invariant.keys ∙ ap (λ (n : ℕ). table_over (small_key c.args.words.now c.args.size c.args.features.now) n c.args.keys.now) e,
+    )

@@ -1,51 +1,61 @@
--- `take_out` meets its contract: the words at the first i places are taken out, and `from` is the next place.
+-- `take_out` meets its contract: the words at the first i places are taken out.
 -- Assumes nothing.
-use mathlib.Core.Path.{refl, sym, ◌∙◌}
-use Prim.Native.Nat.{◌+◌}
-use native.Mathlib.Numerals.{add-one}
+use mathlib.Core.Path.{◌≡◌, refl, sym, ap, ◌∙◌}
+use Prim.Native.Nat.{ℕ, ◌+◌, ◌-◌}
 use native.Mathlib.Omega.{arith}
-use Rattle.splicing.proofs.Lemmas.{each_le, ascending_next, take_starts, length_kept, take_step, take_ends}
+use lib.ListN.{get_or}
+use Rattle.std.proofs.Common.{rules, List, Option, Some, None, Bor, unwrap_or}
+use Rattle.std.specs.Option.{option_map, option_map_or}
+use Rattle.splicing.proofs.Lemmas.{get_d_there, block_after, take_starts, length_kept, taking, take_step}
 use Rattle.splicing.proofs.take_out.Goals as goal
 
-pub place_at-from-requires : goal.place_at-from-requires
-place_at-from-requires c = each_le c.args.end c.args.at.now c.requires.1
-
 pub loop-i-init : goal.loop-i-init
-loop-i-init c =
-    let a = c.args in
-    (omega arith, omega arith, c.place_at-from.ensures.0, refl, sym (take_starts a.at.now a.words.now c.place_at-from.result))
+loop-i-init c = sym (take_starts c.args.at.now c.args.words.now _)
 
-pub place_at-to-requires : goal.place_at-to-requires
-place_at-to-requires c = each_le c.args.end c.args.at.now c.requires.1
-
-pub move_down-requires : goal.move_down-requires
-move_down-requires c =
-    let t = c.place_at-to.ensures in
-    let l = c.loop-i in
+pub overflow_sub-from : goal.overflow_sub-from
+overflow_sub-from c =
     let a = c.args in
-    let n = ascending_next a.end a.at.now l.i (l.i + 1) (add-one l.i) c.requires.0 c.requires.1 (omega arith) in
-    let k = length_kept a.at.now a.words.now a.end c.requires.0 c.requires.1 c.requires.2 l.i l.from (omega arith) l.invariant.2 in
-    (omega arith, omega arith, omega arith)
+    let i = c.loop-i.i in
+    let k = length_kept a.at.now a.words.now a.end c.requires.0 c.requires.1 c.requires.2 i _ (omega arith) (get_d_there a.at.now i 0 a.end (omega arith)) in
+    omega arith
+
+-- the next place, or the end after the last
+next_is : (at : List ℕ) (k d r : ℕ) (o : Option (Bor ℕ)) → r ≡ option_map_or (λ (x : Bor ℕ). x.now) o d
+    → unwrap_or (option_map (λ (x : Bor ℕ). x.now) o) d ≡ get_or at k d → r ≡ get_or at k d
+next_is at k d r None e f = e ∙ f
+next_is at k d r (Some x) e f = e ∙ f
+
+pub copy_within-requires-clause-start_le_end : goal.copy_within-requires-clause-start_le_end
+copy_within-requires-clause-start_le_end c =
+    let a = c.args in
+    let i = c.loop-i.i in
+    let t = next_is a.at.now (i + 1) a.end c.map_or-to.result c.get.result (search rules) (c.get.ensures.lookup.4 (omega arith) a.end) in
+    let b = block_after a.end a.at.now i _ c.requires.0 c.requires.1 (omega arith) t in
+    omega arith
+
+pub copy_within-requires-clause-in_bounds : goal.copy_within-requires-clause-in_bounds
+copy_within-requires-clause-in_bounds c =
+    let a = c.args in
+    let i = c.loop-i.i in
+    let t = next_is a.at.now (i + 1) a.end c.map_or-to.result c.get.result (search rules) (c.get.ensures.lookup.4 (omega arith) a.end) in
+    let b = block_after a.end a.at.now i _ c.requires.0 c.requires.1 (omega arith) t in
+    omega arith
+
+pub copy_within-requires-clause-dest_in_bounds : goal.copy_within-requires-clause-dest_in_bounds
+copy_within-requires-clause-dest_in_bounds c =
+    let a = c.args in
+    let i = c.loop-i.i in
+    let t = next_is a.at.now (i + 1) a.end c.map_or-to.result c.get.result (search rules) (c.get.ensures.lookup.4 (omega arith) a.end) in
+    let b = block_after a.end a.at.now i _ c.requires.0 c.requires.1 (omega arith) t in
+    omega arith
 
 pub loop-i-preserved : goal.loop-i-preserved
 loop-i-preserved c =
-    let m = c.move_down in
-    let t = c.place_at-to in
-    let l = c.loop-i in
-    let a = c.args in (
-      omega arith,
-      omega arith,
-      t.ensures.0,
-      m.auto.words ∙ l.invariant.3,
-      take_step a.at.now a.words.now a.end c.requires.0 c.requires.1 c.requires.2 l.i l.from (omega arith) l.invariant.2 t.result t.ensures.0
-          l.words m.new.words l.invariant.4 m.ensures,
-    )
-
-pub shape_of-words : goal.shape_of-words
-shape_of-words c = c.loop-i.invariant.3
-
-pub returns : goal.returns
-returns c =
-    let l = c.loop-i in
     let a = c.args in
-    l.invariant.4 ∙ take_ends a.at.now a.words.now a.end l.i l.from (omega arith) l.invariant.2
+    let i = c.loop-i.i in
+    let t = next_is a.at.now (i + 1) a.end c.map_or-to.result c.get.result (search rules) (c.get.ensures.lookup.4 (omega arith) a.end) in
+    let e = get_d_there a.at.now i 0 a.end (omega arith) in
+    let f : get_or a.at.now i 0 - i ≡ get_or a.at.now i 0 + 1 - (i + 1) = omega arith in
+    take_step a.at.now a.words.now a.end c.requires.0 c.requires.1 c.requires.2 i _ (omega arith) refl _ t c.loop-i.words _ c.loop-i.invariant
+    (rw (f, e) at c.copy_within.ensures.after)
+    ∙ ap (taking a.at.now a.words.now (i + 1)) t

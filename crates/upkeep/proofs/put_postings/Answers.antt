@@ -1,30 +1,26 @@
 -- `put_postings` meets its contract: after j turns, the places of j postings are pasted behind the n others.
-use mathlib.Core.Path.{◌≡◌, refl, sym, ap, ap₂, ◌∙◌}
+use mathlib.Core.Path.{◌≡◌, sym, ap, ap₂, ◌∙◌}
 use mathlib.Core.List.{List, ◌++◌}
-use Prim.Native.Nat.{ℕ, ◌+◌, ◌<◌}
+use Prim.Native.Nat.{ℕ, ◌+◌}
 use native.Mathlib.Numerals.{add-one}
 use native.Mathlib.Omega.{arith}
-use lib.ListN.{length, get_or, set, take, length-set, length-map}
+use lib.ListN.{length, get_or, set, take, length-map}
 use lib.Seq.{take-length, paste, paste-zero, paste-suc, take-paste}
 use Rattle.laws.proofs.Images.{get_d_map_lt}
 use Rattle.upkeep.proofs.put_postings.Invariants.{placed}
 use Rattle.upkeep.proofs.put_postings.Goals as goal
 
 pub loop-j-init : goal.loop-j-init
-loop-j-init c = let a = c.args in (omega arith, refl, paste-zero a.at.now a.n (placed a.first a.postings.now))
-
--- the place of this turn's posting fits a word
-small : (c : goal.After-shared_slice_known-1) → c.args.first + get_or c.args.postings.now c.loop-j.j 0 < 4294967296
-small c = c.requires.1 c.loop-j.j c.loop-j-test.true
+loop-j-init c = let a = c.args in paste-zero a.at.now a.n (placed a.first a.postings.now)
 
 pub overflow_cast-at : goal.overflow_cast-at
-overflow_cast-at c = let f = small c in record { fits = omega arith }
+overflow_cast-at c = let f = c.requires.1 c.loop-j.j (omega arith) in record { fits = omega arith }
 
 pub overflow_add-at : goal.overflow_add-at
-overflow_add-at c = let f = small c in record { fits = omega arith }
+overflow_add-at c = let f = c.requires.1 c.loop-j.j (omega arith) in record { fits = omega arith }
 
 pub overflow_cast-at-in-loop-j : goal.overflow_cast-at-in-loop-j
-overflow_cast-at-in-loop-j c = let f = small c in record { fits = omega arith }
+overflow_cast-at-in-loop-j c = let f = c.requires.1 c.loop-j.j (omega arith) in record { fits = omega arith }
 
 pub loop-j-preserved : goal.loop-j-preserved
 loop-j-preserved c =
@@ -32,16 +28,10 @@ loop-j-preserved c =
     let j = c.loop-j.j in
     let m = placed a.first a.postings.now in
     let n : length m ≡ length a.postings.now = length-map a.postings.now (λ (p : ℕ). a.first + p) in
-    let v : get_or m j 0 ≡ a.first + get_or a.postings.now j 0 = get_d_map_lt (λ (p : ℕ). a.first + p) a.postings.now j 0 0 c.loop-j-test.true in (
-      omega arith,
-      simp length-set c.loop-j.invariant.1,
-      ap₂ (λ (d : List ℕ) (x : ℕ). set d (a.n + j) x) c.loop-j.invariant.2 (sym v)
-          ∙ paste-suc a.at.now a.n m j 0 (omega arith) (omega arith)
-          ∙ ap (paste a.at.now a.n m) (sym (add-one j)),
-    )
-
-pub shape_of-at : goal.shape_of-at
-shape_of-at c = c.loop-j.invariant.1
+    let v : get_or m j 0 ≡ a.first + get_or a.postings.now j 0 = get_d_map_lt (λ (p : ℕ). a.first + p) a.postings.now j 0 0 (omega arith) in
+    ap₂ (λ (d : List ℕ) (x : ℕ). set d (a.n + j) x) c.loop-j.invariant (sym v)
+    ∙ paste-suc a.at.now a.n m j 0 (omega arith) (omega arith)
+    ∙ ap (paste a.at.now a.n m) (sym (add-one j))
 
 pub returns : goal.returns
 returns c =
@@ -49,6 +39,6 @@ returns c =
     let m = placed a.first a.postings.now in
     let k : length m ≡ length a.postings.now = length-map a.postings.now (λ (p : ℕ). a.first + p) in
     let e : c.loop-j.j ≡ length a.postings.now = omega arith in
-    ap (take (a.n + length a.postings.now)) (c.loop-j.invariant.2 ∙ ap (paste a.at.now a.n m) e)
+    ap (take (a.n + length a.postings.now)) (c.loop-j.invariant ∙ ap (paste a.at.now a.n m) e)
     ∙ take-paste a.at.now a.n m (length a.postings.now) (omega arith) (omega arith)
     ∙ ap (λ (x : List ℕ). take a.n a.at.now ++ x) (ap (λ (i : ℕ). take i m) (sym k) ∙ take-length m)

@@ -4,7 +4,7 @@ use mathlib.Core.Bool.{true}
 use mathlib.Core.List.{List, ◌++◌}
 use Prim.Native.Nat.{ℕ, ◌-◌, ◌^◌, ◌≤◌, ◌<◌}
 use native.Mathlib.Omega.{arith}
-use lib.ListN.{length, get_or, take, drop, replicate, length-append, length-drop, length-replicate, get_or-append}
+use lib.ListN.{length, get_or, take, drop, replicate, length-append, length-drop, length-replicate}
 use lib.Seq.{take-append_seam, take_at, length-take-le}
 use Rattle.laws.specs.Lists.{member}
 use Rattle.laws.specs.Sort.{sort_of}
@@ -58,93 +58,70 @@ module _ {s : FeatureSet} (name : List ℕ) (e : s ≡ filled (features_of name)
         let w = within in
         omega arith
 
-    fits : ((j : ℕ) → get_or name j 0 < characters) → (i : ℕ) → i < s.len → get_or (t ++ drop s.len s.items) i 0 < 2 ^ 32
+    -- and stand at the start of the items
+    part : take s.len (t ++ drop s.len s.items) ≡ t
+    part = take_at t (drop s.len s.items) s.len as_many
+
+    fits : ((j : ℕ) → get_or name j 0 < characters) → (i : ℕ) → i < s.len → get_or t i 0 < 2 ^ 32
     fits bytes i h =
         let n = as_many in
         let m : member (get_or t i 0) (sort_of (features_of name)) ≡ true = ap (member (get_or t i 0)) (sym ordered) ∙ member_at t i (omega arith) in
         let p = member_place (get_or t i 0) (features_of name) (sym (member_sort (get_or t i 0) (features_of name)) ∙ m) in
         let q = feature_fits name bytes p.0 in
         let r = p.2 in
-        let v = get_or-append t (drop s.len s.items) 0 i (omega arith) in
         omega arith
 
     -- copied to the start of a list
-    copied : (out v rest : List ℕ) → length out ≡ most_features → v ≡ take (length (take s.len out)) (t ++ drop s.len s.items)
-        → take s.len (v ++ rest) ≡ sort_of (features_of name)
-    copied out v rest n c =
-        let w : v ≡ t = c ∙ take_at t (drop s.len s.items) (length (take s.len out)) (as_many ∙ sym (cut out n)) in
+    copied : (v rest : List ℕ) → v ≡ take s.len (t ++ drop s.len s.items) → take s.len (v ++ rest) ≡ sort_of (features_of name)
+    copied v rest c =
+        let w = c ∙ part in
         take_at v rest s.len (ap length w ∙ as_many) ∙ w ∙ ordered
-
-abbrev name_at : goal.After-items-1 → List ℕ
-name_at c = c.args.name.now
 
 pub slice_bounds-items-end : goal.slice_bounds-items-end
 slice_bounds-items-end c =
-    let a = all (name_at c) c.features_good-set.ensures in
-    let b = within (name_at c) c.features_good-set.ensures in
+    let a = all _ c.features_good-set.ensures in
+    let b = within _ c.features_good-set.ensures in
     omega arith
-
--- `name_at`, at another place
-abbrev name_at-2 : goal.After-items-2-1 → List ℕ
-name_at-2 c = c.args.name.now
 
 pub slice_bounds-sort-end : goal.slice_bounds-sort-end
 slice_bounds-sort-end c =
     let e = c.features_good-set.ensures in
-    sym (cut (name_at-2 c) e c.features_good-set.result.items (all (name_at-2 c) e))
+    sym (cut _ e c.features_good-set.result.items (all _ e))
 
 pub slice_bounds-spare-end : goal.slice_bounds-spare-end
-slice_bounds-spare-end c = within (name_at-2 c) c.features_good-set.ensures
-
--- `name_at`, at another place
-abbrev name_at-3 : goal.After-spare-1 → List ℕ
-name_at-3 c = c.args.name.now
+slice_bounds-spare-end c = within _ c.features_good-set.ensures
 
 pub slice_bounds-sort-end-2 : goal.slice_bounds-sort-end-2
-slice_bounds-sort-end-2 c = sym (cut (name_at-3 c) c.features_good-set.ensures (replicate most_features 0) refl)
+slice_bounds-sort-end-2 c = sym (cut _ c.features_good-set.ensures (replicate most_features 0) refl)
 
 pub sort-requires : goal.sort-requires
 sort-requires c =
     let e = c.features_good-set.ensures in
-    cut (name_at-3 c) e (replicate most_features 0) refl ∙ sym (cut (name_at-3 c) e c.features_good-set.result.items (all (name_at-3 c) e))
-
--- `name_at`, at another place
-abbrev name_at-4 : goal.After-items-4-1 → List ℕ
-name_at-4 c = c.args.name.now
+    cut _ e (replicate most_features 0) refl ∙ sym (cut _ e c.features_good-set.result.items (all _ e))
 
 pub slice_bounds-narrow-end : goal.slice_bounds-narrow-end
 slice_bounds-narrow-end c =
-    sym (still-all (name_at-4 c) c.features_good-set.ensures c.sort.ensures)
+    let e = c.features_good-set.ensures in
+    sym (ap length (part _ e c.sort.ensures) ∙ as_many _ e c.sort.ensures)
 
 pub slice_bounds-narrow-end-2 : goal.slice_bounds-narrow-end-2
 slice_bounds-narrow-end-2 c =
     let n = c.requires.1 in
-    let w = within (name_at-4 c) c.features_good-set.ensures in
+    let w = within _ c.features_good-set.ensures in
     omega arith
 
--- `name_at`, at another place
-abbrev name_at-5 : goal.After-narrow-arg-1 → List ℕ
-name_at-5 c = c.args.name.now
-
 pub slice_bounds-narrow-end-3 : goal.slice_bounds-narrow-end-3
-slice_bounds-narrow-end-3 c =
-    sym (cut (name_at-5 c) c.features_good-set.ensures c.args.out.now c.requires.1)
+slice_bounds-narrow-end-3 c = sym (cut _ c.features_good-set.ensures c.args.out.now c.requires.1)
 
 pub narrow-requires : goal.narrow-requires
 narrow-requires c =
     let e = c.features_good-set.ensures in
-    let n = cut (name_at-5 c) e c.args.out.now c.requires.1 in
-    let a = still-all (name_at-5 c) e c.sort.ensures in
-    let w = within (name_at-5 c) e in (
-      omega arith,
-      λ i h. fits (name_at-5 c) e c.sort.ensures (λ j. (let q = c.type_inv.name j in omega arith)) i (omega arith),
-    )
-
--- `name_at`, at another place
-abbrev name_at-6 : goal.After-slice_known-2-1 → List ℕ
-name_at-6 c = c.args.name.now
+    let n = cut _ e c.args.out.now c.requires.1 in
+    let p = part _ e c.sort.ensures in
+    let m = ap length p ∙ as_many _ e c.sort.ensures in
+    (n ∙ sym m, λ i h. rw p (fits _ e c.sort.ensures (λ j. (let q = c.type_inv.name j in omega arith)) i (omega arith)))
 
 pub returns : goal.returns
 returns c =
     let e = c.features_good-set.ensures in
-    (size (name_at-6 c) e, copied (name_at-6 c) e c.sort.ensures c.args.out.now c.narrow.new.out (drop c.features_good-set.result.len c.args.out.now) c.requires.1 c.narrow.ensures)
+    (size _ e, copied _ e c.sort.ensures c.narrow.new.out _ c.narrow.ensures)

@@ -1,13 +1,8 @@
 -- `note_rows` meets its contract: after r turns the first r rows are noted, and the words are those of the entry in which they no longer count the id.
-use mathlib.Core.Path.{◌≡◌}
-use Prim.Native.Nat.{◌-◌, ◌≤◌}
-use lib.ListN.{length, take}
+use lib.ListN.{take}
 use Rattle.vacancies.proofs.Rows.{NotedTo}
 use Rattle.vacancies.proofs.note_rows.Given as goal
 
 abbrev pub invariant-loop-r : goal.invariant-loop-r
 invariant-loop-r l =
-    (l.r ≤ l.d) × (length l.words ≡ length l.initial.words) × (length l.at ≡ length l.initial.at) × (length l.postings ≡ length l.initial.postings) × NotedTo l.initial.words l.id l.n (take l.n l.initial.at) l.r l.words l.at l.m l.postings l.k
-
-abbrev pub decreases-loop-r : goal.decreases-loop-r
-decreases-loop-r l = l.d - l.r
+    NotedTo l.initial.words l.id l.n (take l.n l.initial.at) l.r l.words l.at l.m l.postings l.k

@@ -1,13 +1,18 @@
 -- `amount_of` meets its contract: the reading, or 0 where it is missing.
 -- Assumes nothing.
-use mathlib.Core.Path.{sym}
-use native.Mathlib.Omega.{arith}
-use Rattle.weeks.proofs.Laws.{amount_present, amount_missing}
-use Rattle.weeks.specs.Pairs.{pair_in}
+use mathlib.Core.Path.{◌≡◌}
+use Prim.Native.Nat.{ℕ}
+use Rattle.std.proofs.Common.{rules}
+use Rattle.std.specs.Option.{option_map_or}
+use Rattle.weeks.specs.Pairs.{pair_in, amount}
+use Rattle.weeks.proofs.Laws.{added}
+use Rattle.weeks.proofs.Steps.{amount_most}
 use Rattle.weeks.proofs.amount_of.Goals as goal
 
-pub returns-then-reading-eq65535 : goal.returns-then-reading-eq65535
-returns-then-reading-eq65535 c = let e = c.args.entry in (sym (amount_missing (pair_in e) e c.if-reading-eq65535.true), omega arith)
-
 pub returns : goal.returns
-returns c = let e = c.args.entry in (sym (amount_present e c.if-reading-eq65535.false), omega arith)
+unfolding amount
+returns c =
+    let x = c.args.entry in
+    let h : c.map_or.result ≡ option_map_or (λ (n : ℕ). n) c.reading_in.result 0 = search rules in
+    let e : c.map_or.result ≡ amount (pair_in x) x = added _ x _ _ c.reading_in.ensures h in
+    (e, rw e (amount_most (pair_in x) x))

@@ -1,8 +1,8 @@
 -- `pairs` meets its contract: sorted entries have the same pairs, which are counted before anything is written.
 -- Assumes nothing.
-use mathlib.Core.Path.{◌∙◌, ap₂}
-use Prim.Native.Nat.{min}
+use mathlib.Core.Path.{◌≡◌}
 use native.Mathlib.Omega.{arith}
+use Rattle.weeks.specs.Pairs.{as_columns, room_of}
 use Rattle.weeks.proofs.Steps.{sorted_entries, pairs_few, pairs_refused, pairs_written}
 use Rattle.weeks.proofs.pairs.Goals as goal
 
@@ -11,15 +11,18 @@ count_pairs-n-requires c = sorted_entries _ _ c.sort.ensures c.requires.1
 
 pub returns-then-room-n : goal.returns-then-room-n
 returns-then-room-n c =
+    let a = c.args in
+    let r : c.min-room.result ≡ room_of (as_columns a.ids.now a.weeks.now a.sums.now a.counts.now) = omega arith in
     let both =
     pairs_refused _ _ c.sort.ensures _ _ c.count_pairs-n.ensures _
-    (c.shorter-room.ensures.2 ∙ ap₂ min c.shorter.ensures.2 c.shorter-2.ensures.2) c.if-room-n.true in record { value = both.0; counts_after = both.1.0; entries_after = both.1.1 }
+    r c.if-room-n.true in record { value = both.0; counts_after = both.1.0; entries_after = both.1.1 }
 
 pub put_pairs-requires : goal.put_pairs-requires
 put_pairs-requires c =
     let o = sorted_entries _ _ c.sort.ensures c.requires.1 in
     let n = c.count_pairs-n.ensures in
-    let r = c.shorter-room.ensures.2 ∙ ap₂ min c.shorter.ensures.2 c.shorter-2.ensures.2 in
+    let a = c.args in
+    let r : c.min-room.result ≡ room_of (as_columns a.ids.now a.weeks.now a.sums.now a.counts.now) = omega arith in
     (o.0, o.1, omega (arith, n, r, c.if-room-n.false))
 
 pub overflow_cast-result : goal.overflow_cast-result
@@ -31,7 +34,9 @@ overflow_cast-result c =
 
 pub returns : goal.returns
 returns c =
+    let a = c.args in
+    let r : c.min-room.result ≡ room_of (as_columns a.ids.now a.weeks.now a.sums.now a.counts.now) = omega arith in
     let both =
     pairs_written _ _ c.sort.ensures _ _ c.count_pairs-n.ensures _
-    (c.shorter-room.ensures.2 ∙ ap₂ min c.shorter.ensures.2 c.shorter-2.ensures.2) _ (omega (arith, c.if-room-n.false))
+    r _ (omega (arith, c.if-room-n.false))
     c.put_pairs.ensures in record { value = both.0; counts_after = both.1.0; entries_after = both.1.1 }

@@ -1,7 +1,8 @@
 -- `part_feature` meets its contract.
+use Rattle.std.proofs.Common.{rules}
 use Rattle.words.specs.Words.{part_feature}
 use Rattle.words.proofs.part_feature.Goals as goal
 
 pub returns : goal.returns
 unfolding part_feature
-returns c = c.part_word.ensures
+returns c = search rules

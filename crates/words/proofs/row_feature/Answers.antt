@@ -1,8 +1,8 @@
 -- `row_feature` meets its contract.
+use Rattle.std.proofs.Common.{rules}
 use Rattle.words.specs.Words.{row_feature}
-use borrow.Author.Rules.{rules}
 use Rattle.words.proofs.row_feature.Goals as goal
 
 pub returns : goal.returns
 unfolding row_feature
-returns c = (c.row_word.ensures, search rules)
+returns c = search rules
