@@ -12,13 +12,9 @@ use Rattle.lines.specs.Lines.{joined}
 use Rattle.lines.proofs.Evenly.{length_texts}
 use Rattle.hex_digits.specs.Lines.{hex_of, hex_line}
 use Rattle.hex_digits.specs.Numbers.{bytes_for}
-use Rattle.std.specs.Prelude.{Result, Ok, Err, IsOk}
-use Rattle.refusals.specs.declared.Refusal.{Refusal}
-use Rattle.refusals.proofs.Refusals.{refused}
-use Rattle.fields.specs.declared.Layout.{Layout}
-use Rattle.fields.specs.Layouts.{Written, field_bytes, name_bytes, line_of, written_in, written_of, out_of}
+use Rattle.fields.specs.Layouts.{field_bytes, name_bytes, line_of, written_of, out_of}
 use Rattle.fields.specs.Fitted.{fitting_of, fitted_of}
-use Rattle.fields.proofs.Fitted.{fitting_whole, fitted_all, written_plain, out_plain, out_exact, put_behind}
+use Rattle.fields.proofs.Fitted.{fitted_all, written_plain, out_plain, out_exact, put_behind}
 use Rattle.log_frames.specs.Frames.{outcome_frame, pair_frame, import_end_frame, import_refusal_frame, outcome_line_length, pair_line_length, import_end_line_length, import_refusal_line_length}
 use Rattle.weeks.specs.Pairs.{Columns}
 use Rattle.importer.specs.Import.{Outcomes}
@@ -110,12 +106,6 @@ part_length at n out h =
     let d = length-drop at out in
     let t = length-take-le ((at + n) - at) (drop at out) (omega arith) in
     omega arith
-
--- a line that fits is written
-pub line_written : (y : Layout) (f : List ℕ) (room : ℕ) (r : Result ℕ Refusal) → written_in r ≡ written_of y f [] room → length (line_of y f []) ≤ room → IsOk r
-line_written y f room (Ok n) e h = refl
-line_written y f room (Err r) e h =
-    absurd (refused r (ap (λ (x : Written). x.number) (e ∙ written_plain y f room ∙ fitting_whole (line_of y f []) room h)))
 
 -- ---- a refusal
 

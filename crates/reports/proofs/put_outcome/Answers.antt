@@ -6,7 +6,8 @@ use Rattle.fields.specs.Layouts.{out_of}
 use Rattle.fields.proofs.Fitted.{put_at_lem}
 use Rattle.log_frames.specs.Frames.{outcome_frame, outcome_line_length}
 use Rattle.reports.specs.Tables.{outcome_text}
-use Rattle.reports.proofs.Text.{length_outcome, outcome_exact, part_length, line_written}
+use Rattle.answers.proofs.Text.{line_ok}
+use Rattle.reports.proofs.Text.{length_outcome, outcome_exact, part_length}
 use Rattle.reports.proofs.put_outcome.Goals as goal
 
 pub returns : goal.returns
@@ -20,4 +21,4 @@ unwrap-requires c =
     let t = c.write_outcome in
     let l = length_outcome (a.case % 256) (a.value % 65536) in
     let p = part_length (outcome_line_length * a.k) outcome_line_length a.out.now c.requires.1 in
-    line_written outcome_frame (a.case % 256 ∷ a.value % 65536 ∷ []) _ t.result t.ensures.value (omega arith)
+    line_ok outcome_frame (a.case % 256 ∷ a.value % 65536 ∷ []) _ t.result t.ensures.value (omega arith)

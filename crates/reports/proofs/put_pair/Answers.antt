@@ -6,7 +6,8 @@ use Rattle.fields.specs.Layouts.{out_of}
 use Rattle.fields.proofs.Fitted.{put_at_lem}
 use Rattle.log_frames.specs.Frames.{pair_frame, pair_line_length}
 use Rattle.reports.specs.Tables.{pair_text}
-use Rattle.reports.proofs.Text.{length_pair, pair_exact, part_length, line_written}
+use Rattle.answers.proofs.Text.{line_ok}
+use Rattle.reports.proofs.Text.{length_pair, pair_exact, part_length}
 use Rattle.reports.proofs.put_pair.Goals as goal
 
 pub returns : goal.returns
@@ -20,4 +21,4 @@ unwrap-requires c =
     let t = c.write_pair in
     let l = length_pair (a.id % 65536) (a.week % 65536) a.sum (a.count % 65536) in
     let p = part_length (pair_line_length * a.k) pair_line_length a.out.now c.requires.1 in
-    line_written pair_frame (a.id % 65536 ∷ a.week % 65536 ∷ a.sum ∷ a.count % 65536 ∷ []) _ t.result t.ensures.value (omega arith)
+    line_ok pair_frame (a.id % 65536 ∷ a.week % 65536 ∷ a.sum ∷ a.count % 65536 ∷ []) _ t.result t.ensures.value (omega arith)

@@ -10,7 +10,8 @@ use Rattle.log_frames.specs.Frames.{import_end_frame, outcome_line_length, pair_
 use Rattle.weeks.specs.Pairs.{as_columns}
 use Rattle.importer.specs.Import.{as_outcomes}
 use Rattle.reports.specs.Tables.{tables_text}
-use Rattle.reports.proofs.Text.{length_end, length_tables, tables_put, end_room, line_written}
+use Rattle.answers.proofs.Text.{line_ok}
+use Rattle.reports.proofs.Text.{length_end, length_tables, tables_put, end_room}
 use Rattle.reports.proofs.put_tables.Goals as goal
 
 pub returns-then-out-total : goal.returns-then-out-total
@@ -53,4 +54,4 @@ unwrap-requires c =
     let d = as_columns a.ids.now a.weeks.now a.sums.now a.counts.now in
     let p = end_room a.n a.m o d a.out.now h _ _ c.put_outcomes.ensures c.put_pairs.ensures in
     let l = length_end a.n a.m in
-    line_written import_end_frame (a.n ∷ a.m ∷ []) _ t.result t.ensures.value (omega arith)
+    line_ok import_end_frame (a.n ∷ a.m ∷ []) _ t.result t.ensures.value (omega arith)
