@@ -36,8 +36,8 @@ fn head_size(layout: Layout) -> usize
     ensures { (result ≡ head_size layout) × (result ≤ 4096) }
 {
     let mut n = 1;
-    for width in layout.widths {
-        n += width as usize;
+    for k in 0..Layout::FIELDS {
+        n += layout.widths[k] as usize;
     }
     n
 }
@@ -114,9 +114,12 @@ pub fn read_named(line: &[u8], layout: Layout, name: &mut [u8]) -> Result<Parts,
     ensures value { reading_in layout result ≡ read_of layout line.now (length name.old) }
     ensures name_after { name.new ≡ buffer_of layout line.now name.old }
 {
-    let parts = read(line, layout, name.len())?;
+    let read = read(line, layout, name.len());
+    let Ok(parts) = read else {
+        return read;
+    };
     hex_digits::copy_bytes(line, head_size(layout) + 1, parts.len, name);
-    Ok(parts)
+    read
 }
 
 // Writes the fields, each at its width, from index 2 on.

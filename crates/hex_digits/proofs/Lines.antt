@@ -13,9 +13,10 @@ use lib.ListN.{length, get_or, take, drop, set, drop_of_length-le}
 use lib.Seq.{take-suc, length-take-le, get_or-drop, sets}
 use lib.Dec.{eqb}
 use Rattle.std.specs.List.{list_all}
+use Rattle.std.specs.Simd.{first_chunks}
 use Rattle.std.proofs.lemmas.List.{append-nil}
 use Rattle.std.proofs.lemmas.List.Edits.{sets-eq}
-use borrow.Author.Tests.{lt-ltb, ltb-true, eqb-true}
+use borrow.Author.Tests.{lt-ltb, ltb-true, eqb-true, eq-eqb, ne_eqb}
 use Rattle.laws.proofs.Below.{and_left, and_right}
 use Rattle.hex_digits.specs.Lines.{digit_of, place_in, value_of, is_digit, hex_of, hex_line, well_formed, bytes_of, Bytes}
 use Rattle.hex_digits.proofs.Digits.{value_digit, digit_value}
@@ -62,10 +63,43 @@ length_bytes (a ∷ b ∷ l) = let h = length_bytes l in omega arith
 
 -- ---- the whole line
 
-pub well_formed_none : (l : List ℕ) → length l ≡ 0 → well_formed l ≡ false
+-- whether a list of two has two digits
+abbrev pub pair_good : List ℕ → Bool
+pair_good p = is_digit (get_or p 0 0) && is_digit (get_or p 1 0)
+
+-- whether what no pair takes is a line feed
+abbrev pub is_end : List ℕ → Bool
+is_end r = eqb (length r) 1 && eqb (get_or r 0 0) 10
+
+-- a line is well formed exactly if a line feed is left when it is cut into pairs, and each of these is two digits
+pub well_formed_pairs : (l : List ℕ) → well_formed l ≡ is_end (drop (length l / 2 * 2) l) && list_all pair_good (first_chunks 2 (length l / 2) l)
 unfolding well_formed
-well_formed_none [] e = refl
-well_formed_none (a ∷ l) e = absurd (omega arith)
+well_formed_pairs [] = refl
+well_formed_pairs (a ∷ []) = sym (and-true _)
+well_formed_pairs (a ∷ b ∷ l) =
+    let e : length (a ∷ b ∷ l) / 2 ≡ suc (length l / 2) = omega arith in
+    let f : suc (length l / 2) * 2 ≡ suc (suc (length l / 2 * 2)) = omega arith in
+    rw (e, f, well_formed_pairs l) (by_test (is_digit a) (is_digit b) (is_end (drop (length l / 2 * 2) l)) (list_all pair_good (first_chunks 2 (length l / 2) l)))
+  where
+    by_test : (s t u v : Bool) → s && (t && (u && v)) ≡ u && ((s && t) && v)
+    by_test true true u v = refl
+    by_test true false u v = sym (and-false u)
+    by_test false t u v = sym (and-false u)
+
+-- the same of the pairs and of what is left, however they were come by
+pub well_formed_cut : (l r : List ℕ) (ps : List (List ℕ)) (e : Bool) → ps ≡ first_chunks 2 (length l / 2) l → r ≡ drop (length l / 2 * 2) l → is_end r ≡ e
+    → well_formed l ≡ e && list_all pair_good ps
+well_formed_cut l r ps e f g h = rw (f, ← h, g) (well_formed_pairs l)
+
+-- what is left is a line feed, or it is none by its length or by its byte
+pub end_is : (r : List ℕ) → length r ≡ 1 → get_or r 0 0 ≡ 10 → is_end r ≡ true
+end_is r n b = rw (eq-eqb _ _ n, eq-eqb _ _ b)
+
+pub end_of_no_byte : (r : List ℕ) → (length r ≡ 1 → ⊥) → is_end r ≡ false
+end_of_no_byte r n = rw (ne_eqb (length r) 1 n)
+
+pub end_of_another : (r : List ℕ) → (get_or r 0 0 ≡ 10 → ⊥) → is_end r ≡ false
+end_of_another r n = rw (ne_eqb (get_or r 0 0) 10 n) (and-false _)
 
 -- a line of at least one byte is well formed exactly if its last byte is a line feed, and what stands before it are pairs of digits
 pub well_formed_last : (p : List ℕ) (b : ℕ) → well_formed (p ++ (b ∷ [])) ≡ (eqb b 10 && eqb (length p % 2) 0) && list_all is_digit p
@@ -80,11 +114,6 @@ well_formed_last (a ∷ d ∷ p) b =
     by_test true true u = refl
     by_test true false u = sym (and-false u)
     by_test false t u = sym (and-false u)
-
--- t is whether the last byte is a line feed and an even number of bytes stand before it
-pub well_formed_by : (l p : List ℕ) (b : ℕ) (t : Bool) → l ≡ p ++ (b ∷ []) → t ≡ (eqb b 10 && eqb (length p % 2) 0)
-    → well_formed l ≡ t && list_all is_digit p
-well_formed_by l p b t e f = rw (e, f) (well_formed_last p b)
 
 -- ---- what a well-formed line holds
 

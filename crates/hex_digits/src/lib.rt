@@ -1,7 +1,7 @@
 // Hexadecimal lines: digits, pairs, numbers high byte first by width, and runs of bytes. Nothing here knows a frame.
 #![tactic(auto)]
 
-ghost use Rattle.std.specs.Prelude.{◌≡◌, true, [], ◌∷◌, ◌+◌, ◌*◌, ◌≤◌, ◌<◌, length, get_or, take, drop, cond, Some, None};
+ghost use Rattle.std.specs.Prelude.{◌≡◌, ◌&&◌, true, [], ◌∷◌, ◌+◌, ◌*◌, ◌≤◌, ◌<◌, length, get_or, take, drop, cond, Some, None};
 ghost use Rattle.std.proofs.lemmas.List.Edits.{sets};
 ghost use Rattle.hex_digits.specs.Lines.{digit_of, value_of, is_digit, hex_of, well_formed, bytes_of};
 ghost use Rattle.hex_digits.specs.Numbers.{number_of, bytes_for};
@@ -25,14 +25,21 @@ fn digit(n: u8) -> u8
     if n < 10 { b'0' + n } else { b'A' - 10 + n }
 }
 
-// Whether the line is pairs of digits and then one line feed.
+// Whether both bytes of a pair are digits.
+fn is_pair(pair: &[u8; 2]) -> bool
+    ensures { result ≡ is_digit (get_or pair.now 0 0) && is_digit (get_or pair.now 1 0) }
+{
+    value(pair[0]).is_some() && value(pair[1]).is_some()
+}
+
+// Whether the line is pairs of digits and then one line feed. A pair is looked at in one turn: a byte a turn took up to half as long again.
 pub fn is_well_formed(line: &[u8]) -> bool
     ensures { result ≡ well_formed line.now }
 {
-    let Some((last, pairs)) = line.split_last() else {
+    let (pairs, [last]) = line.as_chunks::<2>() else {
         return false;
     };
-    *last == b'\n' && pairs.len() % 2 == 0 && pairs.iter().all(|b| value(*b).is_some())
+    *last == b'\n' && pairs.iter().all(|pair| is_pair(pair))
 }
 
 // The byte that the pair at k says; at most 272, and below 256 where its two bytes are digits.

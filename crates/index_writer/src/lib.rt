@@ -134,6 +134,17 @@ fn put_tail(names: &[u32], keys: &[u64], words: &mut [u32]) -> usize
     d
 }
 
+// Puts the name words, in order. By a loop of its own: the library's `copy_from_slice` needs a memmove from outside, and the archive for C goes by memcpy
+// and memset alone.
+fn put_names(names: &[u32], out: &mut [u32])
+    requires { length out.old ≡ length names.now }
+    ensures { out.new ≡ names.now }
+{
+    for (i, word) in names.iter().enumerate() {
+        out[i] = *word;
+    }
+}
+
 // Puts the head words, with d rows and p postings, and the name words before what is there.
 fn put_head(names: &[u32], d: usize, p: usize, words: &mut [u32])
     requires { (length names.now ≤ most_names) × (d ≤ most_postings) × (p ≤ most_postings) × (head_width + length names.now ≤ length words.old) }
@@ -141,7 +152,7 @@ fn put_head(names: &[u32], d: usize, p: usize, words: &mut [u32])
 {
     let n = names.len();
     let end = words::HEAD_WIDTH + n;
-    words[words::HEAD_WIDTH..end].copy_from_slice(names);
+    put_names(names, &mut words[words::HEAD_WIDTH..end]);
     words[words::NAME_COUNT_AT] = n as u32;
     words[words::ROW_COUNT_AT] = d as u32;
     words[words::POSTING_COUNT_AT] = p as u32;

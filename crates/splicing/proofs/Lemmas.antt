@@ -1,13 +1,13 @@
 -- What one turn of each loop does, on plain lists.
 -- Assumes nothing.
-use mathlib.Core.Path.{◌≡◌, refl, sym, ap, ◌∙◌}
+use mathlib.Core.Path.{◌≡◌, refl, sym, ap, ap₂, ◌∙◌}
 use mathlib.Core.List.{List, [], ◌∷◌, ◌++◌, append-nil, append_assoc}
 use Prim.Native.Nat.{ℕ, zero, suc, ◌+◌, ◌-◌, ◌≤◌, ◌<◌}
 use native.Mathlib.Nat.{sub-zero, suc-sub-suc}
 use native.Mathlib.Numerals.{add-one}
 use native.Mathlib.Omega.{arith}
 use lib.ListN.{length, get_or, take, drop, set, length-drop, take-append-drop, get_or-eq_default}
-use lib.Seq.{paste, slice, slice_empty, take-length, drop-length, length-take-le, take-nil, take-suc, drop-cons, take-take, take_at, drop_at, drop-drop, get_or-take, get_or-drop, take-append-le, drop-append-le}
+use lib.Seq.{paste, paste-suc, slice, slice_empty, take-length, drop-length, length_paste_head, length-take-le, take-nil, take-suc, drop-cons, take-take, take_at, drop_at, drop-drop, get_or-take, get_or-drop, take-append-le, drop-append-le}
 use Rattle.laws.specs.Lists.{Ascending, AllAbove}
 use Rattle.laws.specs.Sort.{AllFrom, Sorted}
 use Rattle.laws.specs.Each.{Each}
@@ -104,6 +104,25 @@ get_d_behind n k h l e b =
     let f = get_or-drop k (h ++ drop n l) 0 0 in
     let g = get_or-drop k l 0 0 in
     rw q at (sym f ∙ ap (λ (r : List ℕ). get_or r 0 0) (drop_behind n k h l e b) ∙ g)
+
+-- one word more moves down: it stands after the moved ones
+pub down_step : (l w : List ℕ) (k from by : ℕ) → by ≤ from → from ≤ k → k < length l → w ≡ paste l (from - by) (drop from l) (k - from)
+    → set w (k - by) (get_or w k 0) ≡ paste l (from - by) (drop from l) (k + 1 - from)
+down_step l w k from by b h n q =
+    let d = length-drop from l in
+    let e : from - by + (k - from) ≡ k - by = omega arith in
+    let f : k + 1 - from ≡ suc (k - from) = omega arith in
+    ap₂ (λ (r : List ℕ) (x : ℕ). set r (k - by) x) q value
+    ∙ rw (← e, f) (paste-suc l (from - by) (drop from l) (k - from) 0 (omega arith) (omega arith))
+  where
+    value : get_or w k 0 ≡ get_or (drop from l) (k - from) 0
+    value =
+        let d = length-drop from l in
+        let g : from + (k - from) ≡ k = omega arith in
+        let p = length_paste_head l (from - by) (drop from l) (k - from) (omega arith) (omega arith) in
+        ap (λ (r : List ℕ). get_or r k 0) q
+        ∙ get_d_behind (from - by + (k - from)) k (take (from - by) l ++ take (k - from) (drop from l)) l p (omega arith)
+        ∙ rw (get_or-drop, g)
 
 -- ---- words put in
 

@@ -1,7 +1,7 @@
 -- `fields` meets its contract: after k turns the first k fields stand at the start of the array, and `at` is after their bytes.
 -- Assumes nothing.
 use mathlib.Core.Path.{◌≡◌}
-use Prim.Native.Nat.{◌+◌, ◌-◌, ◌≤◌}
+use Prim.Native.Nat.{◌+◌}
 use lib.ListN.{take, drop, replicate}
 use lib.Seq.{sets}
 use Rattle.laws.specs.Lists.{sum_of}

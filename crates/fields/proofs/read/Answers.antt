@@ -1,7 +1,6 @@
 -- `read` meets its contract: its tests come in the order of the definition.
 -- Assumes nothing.
-use Rattle.std.proofs.Common.{◌≡◌, true, length, sym, ◌∙◌, arith}
-use Rattle.fields.specs.Layouts.{is_frame}
+use Rattle.std.proofs.Common.{sym, ◌∙◌, arith}
 use Rattle.fields.proofs.Layouts.{read_malformed, read_long, read_good}
 use Rattle.fields.proofs.read.Goals as goal
 

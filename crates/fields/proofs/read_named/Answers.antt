@@ -1,6 +1,6 @@
 -- `read_named` meets its contract: a reading that is accepted is that of a frame whose name fits, and then the name is copied.
 -- Assumes nothing.
-use Rattle.std.proofs.Common.{◌≡◌, ℕ, ◌+◌, ◌*◌, ◌≤◌, List, Ok, true, length, sym, ap, ◌∙◌, arith}
+use Rattle.std.proofs.Common.{◌≡◌, ℕ, ◌≤◌, List, Ok, true, length, sym, ap, ◌∙◌, arith}
 use Rattle.refusals.proofs.Refusals.{refused}
 use Rattle.hex_digits.proofs.Lines.{well_formed_length}
 use Rattle.fields.specs.declared.Layout.{Layout}
@@ -10,11 +10,11 @@ use Rattle.fields.proofs.Layouts.{frame_well_formed, length_name, read_zero, rea
 use Rattle.fields.proofs.read_named.Goals as goal
 
 -- a refused reading leaves the buffer as it was
-pub returns-in_err-parts-clause-name_after : goal.returns-in_err-parts-clause-name_after
-returns-in_err-parts-clause-name_after c =
+pub returns-in_default-clause-name_after : goal.returns-in_default-clause-name_after
+returns-in_default-clause-name_after c =
     let a = c.args in
-    let r = c.in_err-parts.field-0.0 in
-    sym (buffer_kept a.layout a.line.now a.name.now (λ z. refused r (ap (λ (x : Reading). x.number) c.in_err-parts.ensures ∙ z)))
+    let r = c.in_default.field-0 in
+    sym (buffer_kept a.layout a.line.now a.name.now (λ z. refused r (ap (λ (x : Reading). x.number) c.in_default.ensures ∙ z)))
 
 -- an accepted reading: the line is a frame whose name fits, and its length is what was read
 accepted : (y : Layout) (line : List ℕ) (room : ℕ) (p : Parts)
@@ -29,7 +29,7 @@ pub copy_bytes-requires : goal.copy_bytes-requires
 copy_bytes-requires c =
     let y = c.args.layout in
     let l = c.args.line.now in
-    let h = accepted y l (length c.args.name.now) c.in_ok-parts.parts c.in_ok-parts.ensures in
+    let h = accepted y l (length c.args.name.now) c.in-Ok.parts c.in-Ok.ensures in
     let w = frame_well_formed y l h.0 in
     let m = well_formed_length l w in
     let k = length_name y l h.0 c.requires.1 in
@@ -39,5 +39,5 @@ copy_bytes-requires c =
 pub returns-clause-name_after : goal.returns-clause-name_after
 returns-clause-name_after c =
     let a = c.args in
-    let h = accepted a.layout a.line.now (length a.name.now) c.in_ok-parts.parts c.in_ok-parts.ensures in
+    let h = accepted a.layout a.line.now (length a.name.now) c.in-Ok.parts c.in-Ok.ensures in
     c.copy_bytes.ensures ∙ rw (c.head_size.ensures.0, h.2) (name_copied a.layout a.line.now a.name.now h.3 c.requires.1)

@@ -14,8 +14,8 @@ bounds-words-1 c =
     let b = c.requires in
     let b3 = b.3 in
     let k = (3 + length a.names.now) - 3 in
-    let o = put_mid 3 k a.words.now c.copy_from_slice.new.self in
-    let g = head_long c.copy_from_slice.new.self a.words.now k (omega arith) in
+    let o = put_mid 3 k a.words.now c.put_names.new.out in
+    let g = head_long c.put_names.new.out a.words.now k (omega arith) in
     let f = length-set o 0 (length a.names.now) in
     let h : 1 < length (set o 0 (length a.names.now)) = omega arith in
     h
@@ -26,8 +26,8 @@ bounds-words-2 c =
     let b = c.requires in
     let b3 = b.3 in
     let k = (3 + length a.names.now) - 3 in
-    let o = put_mid 3 k a.words.now c.copy_from_slice.new.self in
-    let g = head_long c.copy_from_slice.new.self a.words.now k (omega arith) in
+    let o = put_mid 3 k a.words.now c.put_names.new.out in
+    let g = head_long c.put_names.new.out a.words.now k (omega arith) in
     let f = length-set o 0 (length a.names.now) in
     let j = length-set (set o 0 (length a.names.now)) 1 a.d in
     let h : 2 < length (set (set o 0 (length a.names.now)) 1 a.d) = omega arith in
@@ -38,5 +38,5 @@ returns c =
     let a = c.args in
     let b = c.requires in
     let k = (3 + length a.names.now) - 3 in
-    ap (λ (t : List ℕ). set (set (set (put_mid 3 k a.words.now t) 0 (length a.names.now)) 1 a.d) 2 a.p) c.copy_from_slice.ensures.after
+    ap (λ (t : List ℕ). set (set (set (put_mid 3 k a.words.now t) 0 (length a.names.now)) 1 a.d) 2 a.p) c.put_names.ensures
     ∙ head_put a.names.now a.words.now (length a.names.now) a.d a.p k b.3 (omega arith)

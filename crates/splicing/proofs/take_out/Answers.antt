@@ -1,7 +1,7 @@
 -- `take_out` meets its contract: the words at the first i places are taken out.
 -- Assumes nothing.
 use mathlib.Core.Path.{◌≡◌, refl, sym, ap, ◌∙◌}
-use Prim.Native.Nat.{ℕ, ◌+◌, ◌-◌}
+use Prim.Native.Nat.{ℕ, ◌+◌}
 use native.Mathlib.Omega.{arith}
 use lib.ListN.{get_or}
 use Rattle.std.proofs.Common.{rules, List, Option, Some, None, Bor, unwrap_or}
@@ -12,42 +12,21 @@ use Rattle.splicing.proofs.take_out.Goals as goal
 pub loop-i-init : goal.loop-i-init
 loop-i-init c = sym (take_starts c.args.at.now c.args.words.now _)
 
-pub overflow_sub-from : goal.overflow_sub-from
-overflow_sub-from c =
-    let a = c.args in
-    let i = c.loop-i.i in
-    let k = length_kept a.at.now a.words.now a.end c.requires.0 c.requires.1 c.requires.2 i _ (omega arith) (get_d_there a.at.now i 0 a.end (omega arith)) in
-    omega arith
-
 -- the next place, or the end after the last
 next_is : (at : List ℕ) (k d r : ℕ) (o : Option (Bor ℕ)) → r ≡ option_map_or (λ (x : Bor ℕ). x.now) o d
     → unwrap_or (option_map (λ (x : Bor ℕ). x.now) o) d ≡ get_or at k d → r ≡ get_or at k d
 next_is at k d r None e f = e ∙ f
 next_is at k d r (Some x) e f = e ∙ f
 
-pub copy_within-requires-clause-start_le_end : goal.copy_within-requires-clause-start_le_end
-copy_within-requires-clause-start_le_end c =
+pub move_down-requires : goal.move_down-requires
+move_down-requires c =
     let a = c.args in
     let i = c.loop-i.i in
     let t = next_is a.at.now (i + 1) a.end c.map_or-to.result c.get.result (search rules) (c.get.ensures.lookup.4 (omega arith) a.end) in
     let b = block_after a.end a.at.now i _ c.requires.0 c.requires.1 (omega arith) t in
-    omega arith
-
-pub copy_within-requires-clause-in_bounds : goal.copy_within-requires-clause-in_bounds
-copy_within-requires-clause-in_bounds c =
-    let a = c.args in
-    let i = c.loop-i.i in
-    let t = next_is a.at.now (i + 1) a.end c.map_or-to.result c.get.result (search rules) (c.get.ensures.lookup.4 (omega arith) a.end) in
-    let b = block_after a.end a.at.now i _ c.requires.0 c.requires.1 (omega arith) t in
-    omega arith
-
-pub copy_within-requires-clause-dest_in_bounds : goal.copy_within-requires-clause-dest_in_bounds
-copy_within-requires-clause-dest_in_bounds c =
-    let a = c.args in
-    let i = c.loop-i.i in
-    let t = next_is a.at.now (i + 1) a.end c.map_or-to.result c.get.result (search rules) (c.get.ensures.lookup.4 (omega arith) a.end) in
-    let b = block_after a.end a.at.now i _ c.requires.0 c.requires.1 (omega arith) t in
-    omega arith
+    let e = get_d_there a.at.now i 0 a.end (omega arith) in
+    let k = length_kept a.at.now a.words.now a.end c.requires.0 c.requires.1 c.requires.2 i _ (omega arith) e in
+    (omega arith, omega arith, omega arith)
 
 pub loop-i-preserved : goal.loop-i-preserved
 loop-i-preserved c =
@@ -55,7 +34,6 @@ loop-i-preserved c =
     let i = c.loop-i.i in
     let t = next_is a.at.now (i + 1) a.end c.map_or-to.result c.get.result (search rules) (c.get.ensures.lookup.4 (omega arith) a.end) in
     let e = get_d_there a.at.now i 0 a.end (omega arith) in
-    let f : get_or a.at.now i 0 - i ≡ get_or a.at.now i 0 + 1 - (i + 1) = omega arith in
     take_step a.at.now a.words.now a.end c.requires.0 c.requires.1 c.requires.2 i _ (omega arith) refl _ t c.loop-i.words _ c.loop-i.invariant
-    (rw (f, e) at c.copy_within.ensures.after)
+    (rw e at c.move_down.ensures)
     ∙ ap (taking a.at.now a.words.now (i + 1)) t
