@@ -3,17 +3,18 @@
 use mathlib.Core.Path.{◌≡◌, refl, sym, ap, ap₂, ◌∙◌}
 use mathlib.Core.Bool.{Bool, true, false, cond, ◌&&◌, and-true}
 use mathlib.Core.List.{List, [], ◌∷◌, ◌++◌}
-use Prim.Native.Nat.{ℕ, ◌+◌, ◌≤◌, ◌<◌, min}
+use Prim.Native.Nat.{ℕ, suc, ◌+◌, ◌≤◌, ◌<◌, min}
+use native.Mathlib.Nat.{zero-add}
 use native.Mathlib.Omega.{arith}
-use lib.ListN.{length, take, drop, replicate, length-append}
-use lib.Seq.{take_at, drop_at}
+use lib.ListN.{length, get_or, take, drop, replicate, length-append, length-drop}
+use lib.Seq.{length-take-le, drop-drop, take_at, drop_at}
 use lib.Dec.{eqb, ltb}
 use lib.Pointwise.{pointwise}
 use borrow.Author.Tests.{eq-eqb, ne_eqb, eqb-true, eqb-false, lt-ltb, le-ltb}
 use Rattle.index.specs.Good.{Good, good_of}
 use Rattle.index.proofs.Laws.{refused_not_good}
-use Rattle.lines.specs.Lines.{lines_of, line_length, joined}
-use Rattle.lines.proofs.Lines.{lines_nil, lines_step, joined_lines, is_feed, line_cut}
+use Rattle.lines.specs.Lines.{lines_of, line_length, line_feed, joined}
+use Rattle.lines.proofs.Lines.{lines_nil, lines_step, line_within, joined_lines, is_feed, line_cut}
 use Rattle.std.specs.List.{IsFirstMatchOrLen}
 use Rattle.laws.proofs.Lists.{length_nil}
 use Rattle.register.proofs.Laws.{accepted_good, refused_bad}
@@ -37,6 +38,33 @@ begins_tested [] = refl
 begins_tested (a ∷ []) = ap (λ (t : Bool). t && false) (same_test 53 a)
 begins_tested (a ∷ b ∷ s) = ap₂ (λ (t u : Bool). t && u) (same_test 53 a) (and-true (eqb 49 b) ∙ same_test 49 b)
 
+-- bytes begin with 51 exactly if their first line does
+pub begins_line : (s : List ℕ) → begins (take (line_length s) s) ≡ begins s
+unfolding begins line_length
+begins_line [] = refl
+begins_line (a ∷ []) = by_feed (eqb a line_feed)
+  where
+    by_feed : (t : Bool) → eqb (get_or (take (1 + cond t 0 0) (a ∷ [])) 0 0) 53 && eqb (get_or (take (1 + cond t 0 0) (a ∷ [])) 1 0) 49 ≡ eqb a 53 && eqb 0 49
+    by_feed true = refl
+    by_feed false = refl
+begins_line (a ∷ b ∷ s) = by_feed (eqb a line_feed) refl
+  where
+    fives : eqb a line_feed ≡ true → eqb a 53 ≡ false
+    fives e = ne_eqb a 53 (λ h. let g = eqb-true a line_feed e in omega arith)
+
+    by_second : (t : Bool) → eqb (get_or (take (1 + (1 + cond t 0 (line_length s))) (a ∷ b ∷ s)) 0 0) 53 && eqb (get_or (take (1 + (1 + cond t 0 (line_length s))) (a ∷ b ∷ s)) 1 0) 49 ≡ eqb a 53 && eqb b 49
+    by_second true = refl
+    by_second false =
+        let q : 1 + (1 + line_length s) ≡ suc (suc (line_length s)) = omega arith in
+        rw q refl
+
+    by_feed : (t : Bool) → eqb a line_feed ≡ t
+        → eqb (get_or (take (1 + cond t 0 (1 + cond (eqb b line_feed) 0 (line_length s))) (a ∷ b ∷ s)) 0 0) 53
+        && eqb (get_or (take (1 + cond t 0 (1 + cond (eqb b line_feed) 0 (line_length s))) (a ∷ b ∷ s)) 1 0) 49
+        ≡ eqb a 53 && eqb b 49
+    by_feed true e = rw (fives e) refl
+    by_feed false e = by_second (eqb b line_feed)
+
 -- ---- the end of the register
 
 pub end_first : (s : List ℕ) → 0 + bytes_before (lines_of s) ≡ register_end s
@@ -48,24 +76,43 @@ pub end_nil : (s : List ℕ) → length s ≡ 0 → bytes_before (lines_of s) �
 unfolding bytes_before
 end_nil s h = ap (λ (l : List ℕ). bytes_before (lines_of l)) (length_nil s h) ∙ ap bytes_before lines_nil
 
--- a first line that begins with 51 ends the register, and any other belongs to it
-pub end_line : (rest line more : List ℕ) (i : ℕ) → rest ≡ line ++ more → length line ≡ min (i + 1) (length rest) → IsFirstMatchOrLen is_feed rest i → 0 < length rest
-    → bytes_before (lines_of rest) ≡ cond (begins line) 0 (length line + bytes_before (lines_of more))
+-- a line that begins with 51 ends the register
+pub end_met : (s : List ℕ) (at : ℕ) → at < length s → begins (drop at s) ≡ true → bytes_before (lines_of (drop at s)) ≡ 0
 unfolding bytes_before
-end_line rest line more i e l f h =
-    let n : length line ≡ line_length rest = l ∙ line_cut rest i f in
-    ap bytes_before (lines_step rest h)
-    ∙ ap₂ (λ (x y : List ℕ). bytes_before (x ∷ lines_of y))
-    (ap (take (line_length rest)) e ∙ take_at line more (line_length rest) n)
-    (ap (drop (line_length rest)) e ∙ drop_at line more (line_length rest) n)
+end_met s at h b =
+    let n = length-drop at s in
+    ap bytes_before (lines_step (drop at s) (omega arith)) ∙ rw (begins_line (drop at s), b) refl
 
-pub end_met : (rest line more : List ℕ) (i : ℕ) → rest ≡ line ++ more → length line ≡ min (i + 1) (length rest) → IsFirstMatchOrLen is_feed rest i → 0 < length rest
+-- any other belongs to it
+pub end_passed : (s : List ℕ) (at : ℕ) → at < length s → begins (drop at s) ≡ false
+    → bytes_before (lines_of (drop at s)) ≡ line_length (drop at s) + bytes_before (lines_of (drop (at + line_length (drop at s)) s))
+unfolding bytes_before
+end_passed s at h b =
+    let n = length-drop at s in
+    let w = line_within s at (omega arith) in
+    let l : length (take (line_length (drop at s)) (drop at s)) ≡ line_length (drop at s) = length-take-le (line_length (drop at s)) (drop at s) (omega arith) in
+    ap bytes_before (lines_step (drop at s) (omega arith))
+    ∙ rw (begins_line (drop at s), b) (ap₂ ◌+◌ l (ap (λ (r : List ℕ). bytes_before (lines_of r)) (drop-drop (line_length (drop at s)) at s)))
+
+-- the same of a stretch that is the first line of what is left, and of what comes after it
+first_line : (rest line more : List ℕ) (i : ℕ) → rest ≡ line ++ more → length line ≡ min (i + 1) (length rest) → IsFirstMatchOrLen is_feed rest i
+    → (length line ≡ line_length rest) × (begins rest ≡ begins line) × (drop (line_length rest) rest ≡ more)
+first_line rest line more i e l f =
+    let n : length line ≡ line_length rest = l ∙ line_cut rest i f in (
+      n,
+      sym (begins_line rest) ∙ ap begins (ap (take (line_length rest)) e ∙ take_at line more (line_length rest) n),
+      ap (drop (line_length rest)) e ∙ drop_at line more (line_length rest) n,
+    )
+
+pub line_met : (rest line more : List ℕ) (i : ℕ) → rest ≡ line ++ more → length line ≡ min (i + 1) (length rest) → IsFirstMatchOrLen is_feed rest i → 0 < length rest
     → begins line ≡ true → bytes_before (lines_of rest) ≡ 0
-end_met rest line more i e l f h b = end_line rest line more i e l f h ∙ ap (λ (t : Bool). cond t 0 (length line + bytes_before (lines_of more))) b
+line_met rest line more i e l f h b = end_met rest 0 h ((first_line rest line more i e l f).1 ∙ b)
 
-pub end_passed : (rest line more : List ℕ) (i : ℕ) → rest ≡ line ++ more → length line ≡ min (i + 1) (length rest) → IsFirstMatchOrLen is_feed rest i → 0 < length rest
+pub line_passed : (rest line more : List ℕ) (i : ℕ) → rest ≡ line ++ more → length line ≡ min (i + 1) (length rest) → IsFirstMatchOrLen is_feed rest i → 0 < length rest
     → begins line ≡ false → bytes_before (lines_of rest) ≡ length line + bytes_before (lines_of more)
-end_passed rest line more i e l f h b = end_line rest line more i e l f h ∙ ap (λ (t : Bool). cond t 0 (length line + bytes_before (lines_of more))) b
+line_passed rest line more i e l f h b =
+    let p = first_line rest line more i e l f in
+    end_passed rest 0 h (p.1 ∙ b) ∙ ap₂ (λ (k : ℕ) (s : List ℕ). k + bytes_before (lines_of s)) (sym p.0) (ap (λ (k : ℕ). drop k rest) (zero-add (line_length rest)) ∙ p.2)
 
 -- ---- opening
 

@@ -1,31 +1,32 @@
--- Where a name stands, found by a binary search of the names' words. Cited by the proofs of `name_seat`, `name_for`, `is_name` and
--- `guess_names`.
+-- Where a name stands, found by a binary search of the names' words. Cited by the proofs of `name_seat`, `name_for`, `is_name`,
+-- `name_near` and `guess_names`.
 -- Assumes nothing.
 use mathlib.Core.Path.{◌≡◌, refl, sym, ap, ◌∙◌}
 use mathlib.Core.Logic.{⊎_elim}
-use mathlib.Core.Bool.{Bool, cond, false≢true}
+use mathlib.Core.Bool.{Bool, true, cond, ◌&&◌, false≢true}
 use mathlib.Core.List.{List}
 use Prim.Native.Nat.{ℕ, ◌+◌, ◌*◌, ◌/◌, ◌≤◌, ◌<◌}
-use native.Mathlib.Nat.{eq-or-lt_of_le}
+use native.Mathlib.Nat.{eq-or-lt_of_le, zero-add}
 use native.Mathlib.Omega.{arith}
 use lib.ListN.{length, get_or}
-use lib.Dec.{ltb}
-use borrow.Author.Tests.{lt-ltb, ltb-true}
+use lib.Dec.{ltb, eqb}
+use borrow.Author.Tests.{lt-ltb, ltb-true, eq-eqb, eqb-true}
 use Rattle.laws.specs.Lists.{Ascending}
 use Rattle.laws.specs.Below.{count_below}
 use Rattle.laws.proofs.Lists.{length_tabulate, get_d_tabulate}
-use Rattle.laws.proofs.Below.{sum_below_ext}
+use Rattle.laws.proofs.Below.{and_both, and_left, and_right, sum_below_ext}
 use Rattle.laws.proofs.Ascending.{rises, rises_apart, member_get_d}
 use Rattle.laws.proofs.Images.{count_tabulate, ascending_tabulate}
+use Rattle.laws.proofs.FirstFound.{first_is, first_none}
 use Rattle.laws.proofs.BinarySearch.{count_below_place}
 use Rattle.laws.proofs.Tests.{same_test}
 use Rattle.binary_search.specs.declared.Seat.TheVariants.{At, Before}
 use Rattle.binary_search.specs.Column.{column_at, Rising}
 use Rattle.binary_search.specs.Seats.{place_of, seat_of}
 use Rattle.binary_search.proofs.Seats.{seat_met, seat_not_met, seat_stands, seat_missing}
-use Rattle.words.specs.Words.{name_count, names_start, name_start, name_width, size_room, name_word, name_id}
+use Rattle.words.specs.Words.{name_count, names_start, name_start, name_width, size_room, name_word, name_id, name_size}
 use Rattle.index.specs.Good.{largest_id, ids_in}
-use Rattle.index.specs.Check.{Named}
+use Rattle.index.specs.Check.{Named, name_for}
 use Rattle.index.proofs.Facts.{head_facts, names_facts}
 
 module _ (w : List ℕ) (good : Named w) where
@@ -122,3 +123,37 @@ module _ (w : List ℕ) (good : Named w) where
   -- two names of one id are one
   pub one_name : (i j : ℕ) → i < name_count w → j < name_count w → name_id w i ≡ name_id w j → i ≡ j
   one_name = rises_apart (name_count w) (name_id w) ids_rise
+
+  -- ---- the name of an id and a size
+
+  module _ (y id : ℕ) where
+    test : ℕ → Bool
+    test i = eqb (name_id w i) id && eqb (name_size w i) y
+
+    parts : (i : ℕ) → test i ≡ true → (name_id w i ≡ id) × (name_size w i ≡ y)
+    unfolding test
+    parts i e =
+        let a = eqb (name_id w i) id in
+        let b = eqb (name_size w i) y in
+        (eqb-true (name_id w i) id (and_left a b e), eqb-true (name_size w i) y (and_right a b e))
+
+    -- none
+    pub for_none : ((i : ℕ) → i < name_count w → name_id w i ≡ id → name_size w i ≡ y → ⊥) → name_count w ≡ name_for w y id
+    unfolding name_for test
+    for_none n =
+        sym
+        (first_none test (name_count w) 0 (λ m l k e. let p = parts m e in n m (omega arith) p.0 p.1)
+        ∙ zero-add (name_count w))
+
+    -- one that has both is it, however it was come by
+    pub for_met : (i : ℕ) → i < name_count w → name_id w i ≡ id → name_size w i ≡ y → i ≡ name_for w y id
+    unfolding name_for test
+    for_met i l p q =
+        sym
+        (first_is test (name_count w) 0 i (omega arith) (omega arith) (and_both _ _ (eq-eqb _ _ p) (eq-eqb _ _ q))
+        (λ m k h e. let a = ids_rise m i h l in let b = (parts m e).0 in omega arith))
+
+    -- the name of the id has another size
+    pub for_size : (i : ℕ) → i < name_count w → name_id w i ≡ id → (name_size w i ≡ y → ⊥) → name_count w ≡ name_for w y id
+    for_size i l p n =
+        for_none (λ j m e q. n (ap (name_size w) (sym (rises_apart (name_count w) (name_id w) ids_rise j i m l (e ∙ sym p))) ∙ q))

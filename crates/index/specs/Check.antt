@@ -1,7 +1,8 @@
 -- What a part of the check leans on, where an earlier part has found it so, where it finds a name, and the tally that it keeps.
 -- Assumes nothing.
-use Rattle.std.specs.Prelude.{◌≡◌, true, List, ℕ, ◌<◌, get_or, Option, None, Some}
+use Rattle.std.specs.Prelude.{◌≡◌, true, ◌&&◌, List, ℕ, ◌<◌, get_or, eqb, Option, None, Some}
 use Rattle.laws.specs.Lists.{member}
+use Rattle.laws.specs.First.{first_from}
 use Rattle.laws.specs.Below.{count_below}
 use Rattle.words.specs.Words.{name_count, name_id, name_size, list_at}
 use Rattle.index.specs.Good.{head_good, names_good, rows_good}
@@ -15,6 +16,10 @@ pub record Named (w : List ℕ) : Type 0 where
 pub record Checked (w : List ℕ) : Type 0 where
   pub named : Named w
   pub rows : rows_good w ≡ true
+
+-- the place of the name of that id and that size; N where there is none
+unfoldable pub name_for : List ℕ → ℕ → ℕ → ℕ
+name_for w size id = first_from (λ (i : ℕ). eqb (name_id w i) id && eqb (name_size w i) size) (name_count w) 0
 
 -- a place of a name of that id and that size
 pub record NameAt (w : List ℕ) (size id at : ℕ) : Type 0 where

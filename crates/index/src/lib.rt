@@ -2,11 +2,12 @@
 #![tactic(auto)]
 
 ghost use Rattle.std.specs.Prelude.{◌≡◌, true, ℕ, ◌+◌, ◌-◌, ◌*◌, ◌≤◌, ◌<◌, length, get_or, eqb};
+ghost use Rattle.std.specs.Option.{unwrap_or};
 ghost use Rattle.laws.specs.Below.{all_below};
 ghost use Rattle.words.specs.Words.{name_count, row_count, name_width, name_start, name_size};
 ghost use Rattle.binary_search.specs.Seats.{seat_of};
 ghost use Rattle.index.specs.Good.{ids_in, head_good, name_good, names_good, rows_good, list_good, lists_good, good_of};
-ghost use Rattle.index.specs.Check.{Named, Checked, Tallied, NameAt, NameFor, guess_room};
+ghost use Rattle.index.specs.Check.{Named, Checked, Tallied, name_for, NameAt, NameFor, guess_room};
 
 use binary_search::Seat;
 
@@ -42,9 +43,9 @@ fn names_good(words: &[u32]) -> bool
     requires { head_good words.now ≡ true }
     ensures { result ≡ names_good words.now }
 {
-    let names = words::name_count(words);
-    (0..names).all(|i| name_good(words, i))
-        && (1..names).all(|i| words::name_id(words, i - 1) < words::name_id(words, i))
+    (0..words::name_count(words)).all(|i| {
+        name_good(words, i) && (i == 0 || words::name_id(words, i - 1) < words::name_id(words, i))
+    })
 }
 
 fn rows_good(words: &[u32]) -> bool
@@ -96,7 +97,8 @@ pub fn name_seat(words: &[u32], id: u32) -> Seat
 // The place of the name of that id and that size, if there is one.
 fn name_for(words: &[u32], size: u32, id: u32) -> Option<usize>
     requires { Named words.now }
-    ensures { NameFor words.now size id result }
+    ensures found { NameFor words.now size id result }
+    ensures place { unwrap_or result (name_count words.now) ≡ name_for words.now size id }
 {
     match name_seat(words, id) {
         Seat::At(at) if words::name_size(words, at) == size => Some(at),
@@ -118,10 +120,11 @@ fn guess_names(words: &[u32], guesses: &mut [u8])
     }
 }
 
-// Whether the guess is the place of the name of that id and that size.
+// Whether the guess is the place of the name of that id and that size, the one that name_for finds.
 fn is_name(words: &[u32], guess: usize, size: u32, id: u32) -> bool
     requires { Named words.now }
-    ensures { result ≡ true → NameAt words.now size id guess }
+    ensures found { result ≡ true → NameAt words.now size id guess }
+    ensures place { result ≡ true → guess ≡ name_for words.now size id }
 {
     guess < words::name_count(words)
         && words::name_id(words, guess) == id
@@ -131,7 +134,8 @@ fn is_name(words: &[u32], guess: usize, size: u32, id: u32) -> bool
 // As name_for, whatever the guesses are: a guess that is the name saves the search.
 fn name_near(words: &[u32], guesses: &[u8], size: u32, id: u32) -> Option<usize>
     requires { Named words.now × (guess_room ≤ length guesses.now) }
-    ensures { NameFor words.now size id result }
+    ensures found { NameFor words.now size id result }
+    ensures place { unwrap_or result (name_count words.now) ≡ name_for words.now size id }
 {
     let last = usize::from(guesses[id as usize % GUESSES]);
     if is_name(words, last, size, id) {

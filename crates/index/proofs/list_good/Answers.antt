@@ -67,7 +67,7 @@ returns-in_default-clause-value c =
     let n = c.row_length in
     let k = c.loop-id.id-index in
     let i = part_id w c.requires.0 r c.requires.2 s.result p.result n.result s.ensures.0 p.ensures.0 n.ensures.0 k c.loop-id-test.true in
-    sym (list_unnamed w r k i.0 (λ at h. c.in_default.ensures at (named_as h (sym c.row_size-size.ensures) (sym i.1))))
+    sym (list_unnamed w r k i.0 (λ at h. c.in_default.ensures.found at (named_as h (sym c.row_size-size.ensures) (sym i.1))))
 
 pub overflow_add-tally : goal.overflow_add-tally
 overflow_add-tally c =
@@ -79,7 +79,7 @@ overflow_add-tally c =
     let k = c.loop-id.id-index in
     let i = part_id w c.requires.0 r c.requires.2 s.result p.result n.result s.ensures.0 p.ensures.0 n.ensures.0 k c.loop-id-test.true in
     let u = above w r k c.loop-id.next c.from.result c.loop-id.invariant.1 c.if-from-next.false (c.from.ensures ∙ i.1) in
-    let most = tally_most w c.requires.0 r c.requires.2 k c.loop-id.tally c.loop-id.invariant.0 i.0 u c.in-Some.at (named_as (c.in-Some.ensures) c.row_size-size.ensures i.1) in
+    let most = tally_most w c.requires.0 r c.requires.2 k c.loop-id.tally c.loop-id.invariant.0 i.0 u c.in-Some.at (named_as c.in-Some.ensures.found c.row_size-size.ensures i.1) in
     omega (arith, c.requires.2, c.type_inv.words 1)
 
 pub loop-id-preserved : goal.loop-id-preserved
@@ -93,7 +93,7 @@ loop-id-preserved c =
     let i = part_id w c.requires.0 r c.requires.2 s.result p.result n.result s.ensures.0 p.ensures.0 n.ensures.0 k c.loop-id-test.true in
     let u = above w r k c.loop-id.next c.from.result c.loop-id.invariant.1 c.if-from-next.false (c.from.ensures ∙ i.1) in
     let e : k + 1 - 1 ≡ k = omega arith in (
-      list_more w c.requires.0 r c.requires.2 k c.loop-id.tally c.loop-id.invariant.0 i.0 u c.in-Some.at (named_as (c.in-Some.ensures) c.row_size-size.ensures i.1)
+      list_more w c.requires.0 r c.requires.2 k c.loop-id.tally c.loop-id.invariant.0 i.0 u c.in-Some.at (named_as c.in-Some.ensures.found c.row_size-size.ensures i.1)
           (omega (arith, c.requires.3, c.loop-id.auto.tally)),
       (λ z. absurd (omega arith), λ z. ap (λ (x : ℕ). x + 1) (c.from-next.ensures ∙ i.1 ∙ ap (id_at w r) (sym e))),
     )
