@@ -56,14 +56,14 @@ fn main(rt: HostRuntime) -> ExitCode {
         Ok(len) => len,
         Err(error) => {
             let what = "importer: standard input cannot be read, so nothing is imported";
-            streams::fail(&rt, what, &error);
+            streams::fail(&rt, what, &Some(error));
             return ExitCode::FAILURE;
         }
     };
     let mut out = [0u8; reports::LONGEST_REPORT];
     if let Err(error) = import_input(&mut rt.stdout(), &space[..len], &mut out) {
         let what = "importer: standard output cannot be written, so the import is not all there";
-        streams::fail(&rt, what, &error);
+        streams::fail(&rt, what, &Some(error));
         return ExitCode::FAILURE;
     }
     ExitCode::SUCCESS

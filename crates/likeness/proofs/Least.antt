@@ -10,7 +10,7 @@ use native.Mathlib.Omega.{arith}
 use mathlib.Core.Logic.{⊎_elim}
 use lib.Dec.{leb}
 use borrow.Author.Tests.{le-leb, lt-leb, leb-true}
-use Rattle.std.proofs.Common.{Option, None, Some, MatchOption, unwrap_or}
+use Rattle.std.proofs.Common.{Option, None, Some, MatchOption, IsSome}
 use Rattle.laws.specs.First.{first_from}
 use Rattle.laws.proofs.First.{first_nil, first_within, first_least, first_passes}
 use Rattle.laws.proofs.Tests.{same_test, test_failed}
@@ -79,14 +79,12 @@ module _ (m p q x y : ℕ) (known : good_measure m ≡ true) (good : good_thresh
       least_le (max 1 (max x y)) (omega arith)
       (similar_mono m p q x y (max x y) (max 1 (max x y)) (omega arith) (similar_whole m p q x y known good))
 
-  -- so it is what a search below the larger size, or below 1, finds, and that size where it finds none
-  pub least_found : (most : ℕ) (r : Option ℕ) → most ≡ max (max x y) 1
-      → MatchOption r ((k : ℕ) → 1 ≤ k → k < most → is_similar m p q x y k ≡ false)
-      (λ c. (1 ≤ c) × (c < most) × (is_similar m p q x y c ≡ true) × ((k : ℕ) → 1 ≤ k → k < c → is_similar m p q x y k ≡ false))
-      → unwrap_or r most ≡ least_count m p q x y
-  least_found most None e h =
-      least_is most (omega arith) (similar_mono m p q x y (max x y) most (omega arith) (similar_whole m p q x y known good)) h
-  least_found most (Some c) e h = least_is c h.0 h.2 h.3
+  -- a search that comes to the larger size, or beyond it, finds a count
+  pub least_met : (a b : ℕ) → a ≤ b → max x y ≤ b → (Met : ℕ → Type 0) (r : Option ℕ)
+      → MatchOption r ((k : ℕ) → a ≤ k → k ≤ b → is_similar m p q x y k ≡ false) Met → IsSome r
+  least_met a b l k Met None h =
+      absurd (test_failed _ (h b l (omega arith)) (similar_mono m p q x y (max x y) b k (similar_whole m p q x y known good)))
+  least_met a b l k Met (Some c) h = refl
 
   -- a shared count of at least 1 is similar exactly if the least count is at most it
   pub least_decides : (c : ℕ) → 1 ≤ c → is_similar m p q x y c ≡ leb (least_count m p q x y) c

@@ -3,3 +3,4 @@ pub mod Measures
 pub mod Sizes
 pub mod Least
 pub mod Terms
+pub mod Inclusive

@@ -85,10 +85,9 @@ pub fn least_count(measure: u8, p: u16, q: u16, x: u8, y: u8) -> u8
     if !good_threshold(p, q) {
         return 0;
     }
-    let most = x.max(y).max(1);
-    (1..most)
+    (1..=u8::MAX)
         .find(|c| reaches_threshold(measure, p, q, x, y, *c))
-        .unwrap_or(most)
+        .unwrap()
 }
 
 // Whether two names of x and y features, with so many shared, are similar; never where the measure or the threshold is bad.

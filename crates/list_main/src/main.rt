@@ -79,13 +79,19 @@ fn start_of(words: &[u32], size: u32, feature: u64) -> usize
     place.start
 }
 
+// The words, each with a space before it.
+fn put_words<P: Print>(rt: &P, words: &[u32]) -> io::Result<()> {
+    for word in words {
+        print!(rt; " {}", *word)?;
+    }
+    Ok(())
+}
+
 // Finds the list, and writes the answer.
 fn answer<P: Print>(rt: &P, words: &[u32], size: u32, feature: u64) -> io::Result<()> {
     let list = lists::list_for(words, size, feature);
     print!(rt; "{} {}", start_of(words, size, feature), list.len())?;
-    for word in list {
-        print!(rt; " {}", *word)?;
-    }
+    put_words(rt, list)?;
     println!(rt)
 }
 

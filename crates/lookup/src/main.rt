@@ -104,7 +104,7 @@ fn main(rt: HostRuntime) -> ExitCode {
         Ok(len) => len,
         Err(error) => {
             let what = "lookup: standard input cannot be read, so nothing is answered";
-            streams::fail(&rt, what, &error);
+            streams::fail(&rt, what, &Some(error));
             return ExitCode::FAILURE;
         }
     };
@@ -112,7 +112,7 @@ fn main(rt: HostRuntime) -> ExitCode {
     let mut out = [0u8; answers::LONGEST_ANSWER];
     if let Err(error) = answer_input(&mut rt.stdout(), &space[..len], &mut words, &mut out) {
         let what = "lookup: standard output cannot be written, so the answers are not all there";
-        streams::fail(&rt, what, &error);
+        streams::fail(&rt, what, &Some(error));
         return ExitCode::FAILURE;
     }
     ExitCode::SUCCESS

@@ -40,6 +40,14 @@ fn page() -> [u8; 262144]
     [0; 262144]
 }
 
+// The words, each with a space before it.
+fn put_words<P: Print>(rt: &P, words: &[u32]) -> io::Result<()> {
+    for word in words {
+        print!(rt; " {}", *word)?;
+    }
+    Ok(())
+}
+
 // Builds, and writes the answer.
 fn answer<P: Print>(rt: &P, register: &[u8], words: &mut [u32]) -> io::Result<()> {
     words.fill(2779096485);
@@ -48,10 +56,7 @@ fn answer<P: Print>(rt: &P, register: &[u8], words: &mut [u32]) -> io::Result<()
         Err(refused) => (refused.refusal.number(), refused.line),
     };
     print!(rt; "{number} {line}")?;
-    for word in words {
-        print!(rt; " {}", *word)?;
-    }
-    Ok(())
+    put_words(rt, words)
 }
 
 // The end of a case.

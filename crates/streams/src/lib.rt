@@ -75,10 +75,13 @@ pub fn write_text<W: Write>(writer: &mut W, text: &[u8]) -> Result<(), Unwritten
 }
 
 // Says on standard error what failed, and why, in the system's words.
-pub fn fail<R: Eprint + Alloc>(rt: &R, what: &str, error: &Error) {
-    let _ = match format!(in rt.alloc(); "{error}") {
-        Ok(text) => rt.eprintln(format_args!("{what}: {}", reason(text.as_str()))),
-        Err(_) => eprintln!(rt; "{what}: {error}"),
+pub fn fail<R: Eprint + Alloc>(rt: &R, what: &str, failure: &Option<Error>) {
+    let _ = match failure {
+        None => eprintln!(rt; "{what}"),
+        Some(error) => match format!(in rt.alloc(); "{error}") {
+            Ok(text) => rt.eprintln(format_args!("{what}: {}", reason(text.as_str()))),
+            Err(_) => eprintln!(rt; "{what}: {error}"),
+        },
     };
 }
 
