@@ -134,8 +134,8 @@ fn put_tail(names: &[u32], keys: &[u64], words: &mut [u32]) -> usize
     d
 }
 
-// Puts the name words, in order. By a loop of its own: the library's `copy_from_slice` needs a memmove from outside, and the archive for C goes by memcpy
-// and memset alone.
+// Puts the name words, in order. By a loop: between two lent slices the library's `copy_from_slice` needs a memmove from outside, and the archive for C
+// goes by memcpy and memset alone.
 fn put_names(names: &[u32], out: &mut [u32])
     requires { length out.old ≡ length names.now }
     ensures { out.new ≡ names.now }

@@ -8,8 +8,8 @@ ghost use Rattle.laws.specs.Sort.{Sorted};
 ghost use Rattle.laws.specs.Each.{Each};
 ghost use Rattle.splicing.specs.Splice.{put_in, take_out};
 
-// Moves the words from `from` to before `to` down by `by` places, the first first. It stands in its callers' loop, where most blocks hold no word: a call of
-// the library's `copy_within` for each took up to half as long again.
+// Moves the words from `from` to before `to` down by `by` places, the first first. Most blocks that `take_out` closes up hold no word, and a call of the
+// library's `copy_within` for each of them took more than half as long again.
 fn move_down(words: &mut [u32], from: usize, to: usize, by: usize)
     requires { (by ≤ from) × (from ≤ to) × (to ≤ length words.old) }
     ensures { words.new ≡ paste words.old (from - by) (drop from words.old) (to - from) }
