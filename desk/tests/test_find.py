@@ -57,6 +57,8 @@ class Find(Case):
         self.assertEqual(self.find('lanes'), (
             'No registered name is like "lanes" by dice at 3/5. The register was searched whole.\n'
             'Capital and small letters are different letters. In small letters throughout it would be like LANE (10), LANES (11).\n', '', 1))
+        # no list holds a small letter, so that the search itself needs no touch; the hint is no part of what it is allowed
+        self.assertEqual(self.find('lanes', '--allowance', '0'), self.find('lanes'))
 
     def test_an_empty_register(self):
         self.put('none.csv', 'id,name\n')
